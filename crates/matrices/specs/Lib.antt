@@ -1,0 +1,3 @@
+pub mod Entries
+pub mod Questions
+pub mod Calls

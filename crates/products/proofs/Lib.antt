@@ -1,0 +1,11 @@
+pub mod Null
+pub mod States
+pub mod Runs
+pub mod OneStep
+pub mod Induction
+pub mod FirstLetter
+pub mod Tables
+pub mod Undo
+pub mod Rows
+pub mod Reducing
+pub mod Rivals

@@ -1,0 +1,54 @@
+-- Series of generators, what they reach, and what makes a verdict right. Document 01, "Lists and products", "The verdict" and demand 3.
+-- Numbers without limit: nothing here knows of tables or of how large a list may be. Assumes nothing: these are definitions.
+use mathlib.Core.Path.{_≡_}
+use mathlib.Core.List.{List, [], _∷_, _++_}
+use Prim.Native.Nat.{ℕ, _≤_, _<_}
+use lib.ListN.{length, getD}
+use Rattle.words.specs.Word.{Word, Equal}
+
+-- The generators of a list, as words; generator i is counted from 0.
+abbrev pub generator : List Word → ℕ → Word
+generator gens i = getD gens i []
+
+-- Which factors there are: the generator numbers.
+abbrev pub Factor : List Word → ℕ → Type 0
+Factor gens i = i < length gens
+
+-- 01: "A product is a series of generator numbers, each below the number of generators; the empty series is the identity."
+abbrev pub Series : List Word → List ℕ → Type 0
+Series gens [] = Unit {0}
+Series gens (i ∷ r) = Factor gens i × Series gens r
+
+-- The letters of a series' factors, written one behind the other.
+abbrev pub letters : List Word → List ℕ → Word
+letters gens [] = []
+letters gens (i ∷ r) = generator gens i ++ letters gens r
+
+-- 01: "A series reaches the target .. when its factors' letters, written one behind the other, and the target are equal words by the rules".
+abbrev pub Reaches : List Word → List ℕ → Word → Type 0
+Reaches gens r target = Equal (letters gens r) target
+
+-- What the bound counts. 01: "The bound n counts factors, not letters."
+abbrev pub measure : List ℕ → ℕ
+measure r = length r
+
+-- Which series count as products: each, the empty one too.
+abbrev pub Counted : List ℕ → Type 0
+Counted r = Unit {0}
+
+-- A rival for a bound: a series that a verdict is judged against.
+pub record Rival (gens : List Word) (n : ℕ) (r : List ℕ) : Type 0 where
+  pub series : Series gens r
+  pub counted : Counted r
+  pub within : measure r ≤ n
+
+-- `none` is right exactly when no rival reaches the target.
+abbrev pub NoneRight : List Word → Word → ℕ → Type 0
+NoneRight gens target n = (r : List ℕ) → Rival gens n r → Reaches gens r target → ⊥
+
+-- `member` is right: its factors are a rival that reaches the target, its count is how many they are, and no rival that reaches it has fewer.
+pub record MemberRight (gens : List Word) (target : Word) (n : ℕ) (factors : List ℕ) (count : ℕ) : Type 0 where
+  pub rival : Rival gens n factors
+  pub reaches : Reaches gens factors target
+  pub counts : count ≡ length factors
+  pub least : (r : List ℕ) → Rival gens n r → Reaches gens r target → measure factors ≤ measure r

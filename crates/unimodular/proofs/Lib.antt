@@ -1,0 +1,10 @@
+pub mod Integers
+pub mod Product
+pub mod Rows
+pub mod Ending
+pub mod Determinant
+pub mod Shape
+pub mod LastPart
+pub mod Faithful
+pub mod Peeling
+pub mod Bound

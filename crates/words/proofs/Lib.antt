@@ -1,0 +1,11 @@
+pub mod Reduced
+pub mod NormalForm
+pub mod Inverse
+pub mod Bytes
+pub mod Slices
+pub mod Asking
+pub mod FirstOther
+mod Parts
+mod Stack
+mod Arriving
+mod Writing

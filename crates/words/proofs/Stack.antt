@@ -1,0 +1,171 @@
+-- A stack that holds a word: what a letter put on top, and letters taken off, make of it. Assumes nothing.
+use mathlib.Core.Path.{_≡_, refl, sym, ap, _∙_}
+use mathlib.Core.List.{List, [], _∷_, _++_, reverse, reverse-cons, reverse-append, reverse-reverse, map-append}
+use Prim.Native.Nat.{ℕ, zero, suc, _+_, _-_, _≤_, _<_}
+use native.Mathlib.Numerals.{add-one}
+use native.Mathlib.Omega.{arith}
+use lib.ListN.{length, take, set, getD, length-append, length-reverse, length-set}
+use lib.Seq.{take-suc, take-suc-set, take-take, take-at, length-take-le}
+use Rattle.words.specs.Word.{Letter, R, S, Word, arrive}
+use Rattle.words.specs.Bytes.{byte, bytes, letter, word}
+use Rattle.words.specs.Arrival.{endingOf, below, Held, SomeHeld, Arrives}
+use Rattle.words.proofs.Bytes.{letter-r, letter-s, word-bytes, length-bytes}
+
+pub below-suc : (s : List ℕ) (k : ℕ) → k < length s → below s (suc k) ≡ letter (getD s k 0) ∷ below s k
+below-suc s k h =
+    ap (λ (l : List ℕ). reverse (word l)) (take-suc s k 0 h) ∙ ap reverse (map-append letter (take k s) (getD s k 0 ∷ [])) ∙ reverse-append (word (take k s)) (letter (getD s k 0) ∷ [])
+
+-- the same at a height that is not 0
+below-top : (s : List ℕ) (len : ℕ) → 0 < len → len ≤ length s → below s len ≡ letter (getD s (len - 1) 0) ∷ below s (len - 1)
+below-top s len h k =
+    let height : suc (len - 1) ≡ len = omega arith in
+    ap (below s) (sym height) ∙ below-suc s (len - 1) (omega arith)
+
+-- ---- the ending of a word below a height, by its top letters
+
+pub ends-r : (s : List ℕ) (len : ℕ) → 0 < len → len ≤ length s → getD s (len - 1) 0 ≡ 82 → 1 ≡ endingOf (below s len)
+ends-r s len h k top = rw (below-top s len h k, letter-r _ top)
+
+pub ends-s-alone : (s : List ℕ) (len : ℕ) → len ≡ 1 → len ≤ length s → (getD s (len - 1) 0 ≡ 82 → ⊥) → 2 ≡ endingOf (below s len)
+ends-s-alone s len one k top =
+    let none : len - 1 ≡ 0 = omega arith in
+    rw (below-top s len (omega arith) k, letter-s _ top, none)
+
+pub ends-s-after-r : (s : List ℕ) (len : ℕ) → 1 < len → len ≤ length s → (getD s (len - 1) 0 ≡ 82 → ⊥) → getD s (len - 2) 0 ≡ 82 → 2 ≡ endingOf (below s len)
+ends-s-after-r s len h k top next =
+    let height : len - 1 - 1 ≡ len - 2 = omega arith in
+    rw (below-top s len (omega arith) k, letter-s _ top, below-top s (len - 1) (omega arith) (omega arith), height, letter-r _ next)
+
+pub ends-ss : (s : List ℕ) (len : ℕ) → 1 < len → len ≤ length s → (getD s (len - 1) 0 ≡ 82 → ⊥) → (getD s (len - 2) 0 ≡ 82 → ⊥) → 3 ≡ endingOf (below s len)
+ends-ss s len h k top next =
+    let height : len - 1 - 1 ≡ len - 2 = omega arith in
+    rw (below-top s len (omega arith) k, letter-s _ top, below-top s (len - 1) (omega arith) (omega arith), height, letter-s _ next)
+
+-- ---- a stack that holds a word
+
+spells-below : (s : List ℕ) (len : ℕ) (w : Word) → take len s ≡ bytes (reverse w) → below s len ≡ w
+spells-below s len w e = ap (λ (l : List ℕ). reverse (word l)) e ∙ ap reverse (word-bytes (reverse w)) ∙ reverse-reverse w
+
+pub held-below : (s : List ℕ) (len ending : ℕ) (w : Word) → Held s len ending w → below s len ≡ w
+held-below s len ending w h = spells-below s len w (h .spelled)
+
+pub held-length : (s : List ℕ) (len ending : ℕ) (w : Word) → Held s len ending w → len ≡ length w
+held-length s len ending w h = sym (length-take-le len s (h .within)) ∙ ap length (h .spelled) ∙ length-bytes (reverse w) ∙ length-reverse w
+
+pub held-put : (s : List ℕ) (len ending : ℕ) (w : Word) (a : Letter) → Held s len ending w → len < length s → Held (set s len (byte a)) (len + 1) (endingOf (a ∷ w)) (a ∷ w)
+held-put s len ending w a h k =
+    record {
+      within = rw length-set (omega arith);
+      spelled =
+          rw (add-one len)
+          (take-suc-set s len (byte a) k ∙ ap (λ (l : List ℕ). l ++ (byte a ∷ [])) (h .spelled) ∙ sym (map-append byte (reverse w) (a ∷ [])) ∙ ap bytes (sym (reverse-cons a w)));
+      ends = refl;
+    }
+
+pub held-off : (s : List ℕ) (len ending : ℕ) (x w : Word) → Held s len ending (x ++ w) → Held s (len - length x) (endingOf (below s (len - length x))) w
+held-off s len ending x w h =
+    record { within = omega (arith, h .within); spelled = spelled; ends = ap endingOf (spells-below s (len - length x) w spelled) }
+  where
+    height : length (bytes (reverse w)) ≡ len - length x
+    height = omega (arith, held-length s len ending (x ++ w) h, length-append x w, length-bytes (reverse w), length-reverse w)
+
+    spelled : take (len - length x) s ≡ bytes (reverse w)
+    spelled =
+        sym (take-take (len - length x) len s (omega arith)) ∙ ap (take (len - length x)) (h .spelled ∙ ap bytes (reverse-append x w) ∙ map-append byte (reverse w) (reverse x)) ∙ take-at (bytes (reverse w)) (bytes (reverse x)) (len - length x) height
+
+-- ---- what a letter that arrives makes of the stack, by the number of the ending that it meets
+
+cancels-r : (s : List ℕ) (len : ℕ) (w : Word) → Held s len 1 w → Held s (len - 1) (endingOf (below s (len - 1))) (arrive R w)
+cancels-r s len [] h = absurd (omega (arith, h .ends))
+cancels-r s len (R ∷ w) h = held-off s len 1 (R ∷ []) w h
+cancels-r s len (S ∷ []) h = absurd (omega (arith, h .ends))
+cancels-r s len (S ∷ R ∷ w) h = absurd (omega (arith, h .ends))
+cancels-r s len (S ∷ S ∷ w) h = absurd (omega (arith, h .ends))
+
+cancels-ss : (s : List ℕ) (len : ℕ) (w : Word) → Held s len 3 w → Held s (len - 2) (endingOf (below s (len - 2))) (arrive S w)
+cancels-ss s len [] h = absurd (omega (arith, h .ends))
+cancels-ss s len (R ∷ w) h = absurd (omega (arith, h .ends))
+cancels-ss s len (S ∷ []) h = absurd (omega (arith, h .ends))
+cancels-ss s len (S ∷ R ∷ w) h = absurd (omega (arith, h .ends))
+cancels-ss s len (S ∷ S ∷ w) h = held-off s len 3 (S ∷ S ∷ []) w h
+
+puts-r : (s : List ℕ) (len ending : ℕ) (w : Word) → (ending ≡ 1 → ⊥) → Held s len ending w → len < length s → Held (set s len 82) (len + 1) 1 (arrive R w)
+puts-r s len ending [] other h k = held-put s len ending [] R h k
+puts-r s len ending (R ∷ w) other h k = absurd (other (h .ends))
+puts-r s len ending (S ∷ w) other h k = held-put s len ending (S ∷ w) R h k
+
+puts-second-s : (s : List ℕ) (len : ℕ) (w : Word) → Held s len 2 w → len < length s → Held (set s len 83) (len + 1) 3 (arrive S w)
+puts-second-s s len [] h k = absurd (omega (arith, h .ends))
+puts-second-s s len (R ∷ w) h k = absurd (omega (arith, h .ends))
+puts-second-s s len (S ∷ []) h k = held-put s len 2 (S ∷ []) S h k
+puts-second-s s len (S ∷ R ∷ w) h k = held-put s len 2 (S ∷ R ∷ w) S h k
+puts-second-s s len (S ∷ S ∷ w) h k = absurd (omega (arith, h .ends))
+
+puts-first-s : (s : List ℕ) (len ending : ℕ) (w : Word) → (ending ≡ 2 → ⊥) → (ending ≡ 3 → ⊥) → Held s len ending w → len < length s → Held (set s len 83) (len + 1) 2 (arrive S w)
+puts-first-s s len ending [] one two h k = held-put s len ending [] S h k
+puts-first-s s len ending (R ∷ w) one two h k = held-put s len ending (R ∷ w) S h k
+puts-first-s s len ending (S ∷ []) one two h k = absurd (one (h .ends))
+puts-first-s s len ending (S ∷ R ∷ w) one two h k = absurd (one (h .ends))
+puts-first-s s len ending (S ∷ S ∷ w) one two h k = absurd (two (h .ends))
+
+-- The five ways in which a letter arrives, each by what the code then knows: b is the letter's byte, and `put` and `off` say what a
+-- letter put on top, or letters taken off, leave of the stack s.
+module _ (s : List ℕ) (len ending b : ℕ) (s′ : List ℕ) (len′ ending′ : ℕ) where
+  abbrev Puts : ℕ → ℕ → Type 0
+  Puts byte made = (len′ ≡ len + 1) × (ending′ ≡ made) × (s′ ≡ set s len byte)
+
+  abbrev TakesOff : ℕ → Type 0
+  TakesOff count = (len′ ≡ len - count) × (ending′ ≡ endingOf (below s (len - count)))
+
+  pub r-cancels : b ≡ 82 → ending ≡ 1 → TakesOff 1 → Arrives (letter b ∷ []) s len ending s len′ ending′
+  r-cancels is meets off =
+      record {
+        held = λ w h. rw (letter-r b is, off .0, off .1) (cancels-r s len w (rw meets at h));
+        grows = omega arith;
+      }
+
+  pub r-stays : b ≡ 82 → (ending ≡ 1 → ⊥) → len < length s → Puts 82 1 → Arrives (letter b ∷ []) s len ending s′ len′ ending′
+  r-stays is meets room put =
+      record {
+        held = λ w h. rw (letter-r b is, put .0, put .1, put .2) (puts-r s len ending w meets h room);
+        grows = omega arith;
+      }
+
+  pub s-cancels : (b ≡ 82 → ⊥) → ending ≡ 3 → TakesOff 2 → Arrives (letter b ∷ []) s len ending s len′ ending′
+  s-cancels is meets off =
+      record {
+        held = λ w h. rw (letter-s b is, off .0, off .1) (cancels-ss s len w (rw meets at h));
+        grows = omega arith;
+      }
+
+  pub s-doubles : (b ≡ 82 → ⊥) → ending ≡ 2 → len < length s → Puts 83 3 → Arrives (letter b ∷ []) s len ending s′ len′ ending′
+  s-doubles is meets room put =
+      record {
+        held = λ w h. rw (letter-s b is, put .0, put .1, put .2) (puts-second-s s len w (rw meets at h) room);
+        grows = omega arith;
+      }
+
+  pub s-begins : (b ≡ 82 → ⊥) → (ending ≡ 2 → ⊥) → (ending ≡ 3 → ⊥) → len < length s → Puts 83 2 → Arrives (letter b ∷ []) s len ending s′ len′ ending′
+  s-begins is one two room put =
+      record {
+        held = λ w h. rw (letter-s b is, put .0, put .1, put .2) (puts-first-s s len ending w one two h room);
+        grows = omega arith;
+      }
+
+-- a word whose ending is R has a letter, and one whose ending is SS has two
+pub height-r : (s : List ℕ) (len ending : ℕ) → SomeHeld s len ending → ending ≡ 1 → 1 ≤ len
+height-r s len ending (w, h) e = at w (held-length s len ending w h) (sym e ∙ h .ends)
+  where
+    at : (w : Word) → len ≡ length w → 1 ≡ endingOf w → 1 ≤ len
+    at [] l n = absurd (omega arith)
+    at (a ∷ w) l n = omega arith
+
+pub height-ss : (s : List ℕ) (len ending : ℕ) → SomeHeld s len ending → ending ≡ 3 → 2 ≤ len
+height-ss s len ending (w, h) e = at w (held-length s len ending w h) (sym e ∙ h .ends)
+  where
+    at : (w : Word) → len ≡ length w → 3 ≡ endingOf w → 2 ≤ len
+    at [] l n = absurd (omega arith)
+    at (R ∷ w) l n = absurd (omega arith)
+    at (S ∷ []) l n = absurd (omega arith)
+    at (S ∷ R ∷ w) l n = absurd (omega arith)
+    at (S ∷ S ∷ w) l n = omega arith

@@ -1,0 +1,47 @@
+-- Reduction and inversion keep their promise: one argument, with the word that is wanted as a parameter. Assumes nothing.
+use mathlib.Core.Path.{_≡_, refl, sym, ap, subst, _∙_}
+use mathlib.Core.List.{List, [], reverse}
+use Prim.Native.Nat.{ℕ, _*_, _≤_}
+use native.Mathlib.Omega.{arith}
+use lib.ListN.{length, take, length-reverse}
+use Rattle.words.specs.Word.{Word, arrived, nf}
+use Rattle.words.specs.Bytes.{word, bytes}
+use Rattle.words.specs.Questions.{ofWord}
+use Rattle.words.specs.Slices.{overwritten, written}
+use Rattle.words.specs.Calls.{lengthOr, Writes}
+use Rattle.words.specs.Arrival.{Held}
+use Rattle.words.specs.declared.Refusal.{Refusal}
+use Rattle.words.specs.declared.Asked.{Asked}
+use Rattle.words.specs.declared.Asked.the-variants.{Passed, Refused}
+use Rattle.words.specs.declared.Written.{Written}
+use Rattle.words.specs.declared.Written.the-variants.{Length, Refused as Written·Refused}
+use Rattle.words.proofs.Stack.{held-length}
+
+-- a stack at which all of x has arrived spells the normal form of x
+pub held-spells : (s : List ℕ) (len ending : ℕ) (x : Word) → Held s len ending (arrived [] x) → take len s ≡ bytes (nf x)
+unfolding nf
+held-spells s len ending x h = h .spelled
+
+pub held-nf-length : (s : List ℕ) (len ending : ℕ) (x : Word) → Held s len ending (arrived [] x) → len ≡ length (nf x)
+unfolding nf
+held-nf-length s len ending x h = held-length s len ending (arrived [] x) h ∙ sym (length-reverse (arrived [] x))
+
+module _ (f : Word → Word) (k : ℕ) (w before : List ℕ) (needed : ℕ) (asked : Asked) (room : needed ≡ k * length w) (questions : asked ≡ ofWord w needed (length before)) where
+  same-questions : asked ≡ ofWord w (k * length w) (length before)
+  same-questions = questions ∙ ap (λ (n : ℕ). ofWord w n (length before)) room
+
+  pub writes-nothing : {refusal : Refusal} → asked ≡ Refused refusal → Writes f k w before (Written·Refused refusal) before
+  writes-nothing e =
+      let q = sym e ∙ same-questions in
+      record {
+        answer = ap (λ (a : Asked). lengthOr a (length (f (word w)))) q;
+        slice = ap (λ (a : Asked). written a (bytes (f (word w))) before) q;
+      }
+
+  pub writes-word : asked ≡ Passed → (s : List ℕ) (len : ℕ) (r : Written) (after : List ℕ) → take len s ≡ bytes (f (word w)) → len ≡ length (f (word w)) → r ≡ Length (record { 0 = len }) → after ≡ overwritten (take len s) before → Writes f k w before r after
+  writes-word e s len r after spells height answers writes =
+      let q = sym e ∙ same-questions in
+      record {
+        answer = answers ∙ ap (λ (n : ℕ). Length (record { 0 = n })) height ∙ ap (λ (a : Asked). lengthOr a (length (f (word w)))) q;
+        slice = writes ∙ ap (λ (l : List ℕ). overwritten l before) spells ∙ ap (λ (a : Asked). written a (bytes (f (word w))) before) q;
+      }

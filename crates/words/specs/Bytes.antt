@@ -1,0 +1,25 @@
+-- Words as bytes. Document 01: "The letter R is the byte 82 and S the byte 83." Assumes nothing: these are definitions.
+use mathlib.Core.Bool.{Bool, true, false}
+use mathlib.Core.List.{List, map}
+use Prim.Native.Nat.{ℕ}
+use lib.Dec.{eqb}
+use Rattle.words.specs.Word.{Letter, R, S, Word}
+
+-- one of two values, by a test
+abbrev pub pick {ℓ} : {A : Type ℓ} → Bool → A → A → A
+pick true a b = a
+pick false a b = b
+
+abbrev pub byte : Letter → ℕ
+byte R = 82
+byte S = 83
+
+abbrev pub bytes : Word → List ℕ
+bytes w = map byte w
+
+-- 82 is R. Every other byte is taken for S: a byte that is neither 82 nor 83 is refused by question 10 before a word is read.
+abbrev pub letter : ℕ → Letter
+letter b = pick (eqb b 82) R S
+
+abbrev pub word : List ℕ → Word
+word bs = map letter bs

@@ -1,0 +1,36 @@
+-- What the public calls on words promise. Assumes nothing: these are definitions.
+use mathlib.Core.Path.{_≡_}
+use mathlib.Core.List.{List}
+use Prim.Native.Nat.{ℕ, _*_}
+use lib.ListN.{length}
+use Rattle.words.specs.Word.{Word, Normal}
+use Rattle.words.specs.Bytes.{word, bytes}
+use Rattle.words.specs.Questions.{ofLetters, ofWord}
+use Rattle.words.specs.Slices.{written}
+use Rattle.words.specs.declared.Asked.{Asked}
+use Rattle.words.specs.declared.Asked.the-variants.{Passed, Refused}
+use Rattle.words.specs.declared.Written.{Written}
+use Rattle.words.specs.declared.Written.the-variants.{Length, Refused as Written·Refused}
+use Rattle.words.specs.declared.Tested.{Tested}
+use Rattle.words.specs.declared.Tested.the-variants.{Normal as Tested·Normal, NotNormal, Refused as Tested·Refused}
+
+-- the length written, or the refusal
+abbrev pub lengthOr : Asked → ℕ → Written
+lengthOr Passed n = Length (record { 0 = n })
+lengthOr (Refused refusal) n = Written·Refused refusal
+
+-- A call that writes f of the word w, with room for k times w's length asked for: reduction (f is the normal form, k is 1) and
+-- inversion (f is the normal form of the inverse, k is 2). `before` and `after` are what the lent slice holds.
+pub record Writes (f : Word → Word) (k : ℕ) (w before : List ℕ) (r : Written) (after : List ℕ) : Type 0 where
+  pub answer : r ≡ lengthOr (ofWord w (k * length w) (length before)) (length (f (word w)))
+  pub slice : after ≡ written (ofWord w (k * length w) (length before)) (bytes (f (word w))) before
+
+-- The test of normality answers for a word that passes questions 8 and 10, and else refuses.
+abbrev pub TestedRight : Asked → Word → Tested → Type 0
+TestedRight Passed w Tested·Normal = Normal w
+TestedRight Passed w NotNormal = Normal w → ⊥
+TestedRight Passed w (Tested·Refused refusal) = ⊥
+TestedRight (Refused q) w r = r ≡ Tested·Refused q
+
+abbrev pub Tests : List ℕ → Tested → Type 0
+Tests w r = TestedRight (ofLetters w) (word w) r

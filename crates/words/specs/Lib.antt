@@ -1,0 +1,7 @@
+pub mod Word
+pub mod Bytes
+pub mod Questions
+pub mod Slices
+pub mod Parts
+pub mod Calls
+pub mod Arrival

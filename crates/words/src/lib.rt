@@ -1,0 +1,115 @@
+// Words in R and S, where RR and SSS vanish and no other rule holds: reduction to the normal form, inversion, and a test of
+// normality. Every call takes any slices whatever: it answers, or refuses by document 01's questions and changes nothing.
+mod arrival;
+mod copying;
+mod normality;
+pub mod questions;
+
+ghost use mathlib.Core.Path.{_≡_};
+ghost use Prim.Native.Nat.{_≤_};
+ghost use lib.ListN.{length, take};
+ghost use Rattle.words.specs.Word.{nf, inverse};
+ghost use Rattle.words.specs.Slices.{overwritten};
+ghost use Rattle.words.specs.Calls.{Writes, Tests};
+
+// A length in letters. It is never added to a length in factors.
+pub struct Letters(pub u16);
+
+// A length in factors.
+pub struct Factors(pub u16);
+
+// Why a call refuses: the first question answered no, with its place where it names one. `number` and `place` of specs/ give
+// document 01's numbers.
+pub enum Refusal {
+    CardTooLong,
+    BitMapWrong,
+    FieldCut(usize),
+    SpareByte(usize),
+    EntryTooLarge(usize),
+    DeterminantNotOne,
+    TooManyGenerators,
+    TooManyLetters,
+    EndsWrong(usize),
+    NotALetter(usize),
+    GeneratorTooLong(usize),
+    NormalFormTooLong,
+    BoundTooLarge,
+    OutputTooShort,
+    TableTooShort,
+    MatrixTooLarge,
+}
+
+// What a question says of a call's inputs.
+pub enum Asked {
+    Passed,
+    Refused(Refusal),
+}
+
+// The answer of a call that writes a word: the length written.
+pub enum Written {
+    Length(Letters),
+    Refused(Refusal),
+}
+
+// The answer of the test of normality.
+pub enum Tested {
+    Normal,
+    NotNormal,
+    Refused(Refusal),
+}
+
+// Writes the first `len` letters of a stack to the front of `out`.
+fn write_out(stack: &[u8], len: usize, out: &mut [u8]) -> Written
+    requires { ⌜ len ≤ length (now stack) ⌝ }
+    requires { ⌜ len ≤ length (now out) ⌝ }
+    requires { ⌜ len ≤ 8192 ⌝ }
+    ensures { λ r. ⌜ r ≡ Written.Length (record { 0 = len }) ⌝ }
+    ensures { λ _. ⌜ now (out .exit) ≡ overwritten (take len (now (stack .entry))) (now (out .entry)) ⌝ }
+{
+    copying::copy(&stack[..len], out);
+    Written::Length(Letters(len as u16))
+}
+
+// Writes the normal form of `word` to the front of `out`.
+pub fn reduce(word: &[u8], out: &mut [u8]) -> Written
+    ensures { λ r. ⌜ Writes nf 1 (now (word .entry)) (now (out .entry)) r (now (out .exit)) ⌝ }
+{
+    match questions::of_word(word, word.len(), out.len()) {
+        Asked::Refused(refusal) => Written::Refused(refusal),
+        Asked::Passed => {
+            let mut stack = [0u8; 4096];
+            let top = arrival::arrive_all(&mut stack, word);
+            write_out(&stack, top.len, out)
+        }
+    }
+}
+
+// Writes the normal form of the inverse of `word` to the front of `out`.
+pub fn invert(word: &[u8], out: &mut [u8]) -> Written
+    ensures { λ r. ⌜ Writes (λ w. nf (inverse w)) 2 (now (word .entry)) (now (out .entry)) r (now (out .exit)) ⌝ }
+{
+    match questions::of_word(word, 2 * word.len(), out.len()) {
+        Asked::Refused(refusal) => Written::Refused(refusal),
+        Asked::Passed => {
+            let mut stack = [0u8; 8192];
+            let top = arrival::arrive_inverse(&mut stack, word);
+            write_out(&stack, top.len, out)
+        }
+    }
+}
+
+// Says whether `word` is in normal form. Questions 8 and 10 come first, so the test inside is at most 4,096 calls deep.
+pub fn is_normal(word: &[u8]) -> Tested
+    ensures { λ r. ⌜ Tests (now (word .entry)) r ⌝ }
+{
+    match questions::of_letters(word) {
+        Asked::Refused(refusal) => Tested::Refused(refusal),
+        Asked::Passed => {
+            if normality::normal_from(word, 0) {
+                Tested::Normal
+            } else {
+                Tested::NotNormal
+            }
+        }
+    }
+}

@@ -1,0 +1,55 @@
+// The test of normality, by parts. Document 01: "An R part is followed by an S part or nothing, an S part by an R part or nothing;
+// an R part is one R and an S part is S or SS."
+ghost use Prim.Native.Nat.{_≤_};
+ghost use lib.ListN.{length, drop};
+ghost use Rattle.words.specs.Word.{Normal};
+ghost use Rattle.words.specs.Bytes.{word as wordOf};
+ghost use Rattle.words.specs.Parts.{Decides, FromRPart, FromSPart};
+
+// Is the word from `at` on normal?
+pub(crate) fn normal_from(word: &[u8], at: usize) -> bool
+    requires { ⌜ at ≤ length (now word) ⌝ }
+    ensures { λ r. ⌜ Decides r (Normal (wordOf (drop at (now (word .entry))))) ⌝ }
+{
+    if at == word.len() {
+        return true;
+    }
+    if word[at] == 82 {
+        return from_r_part(word, at);
+    }
+    from_s_part(word, at)
+}
+
+// Is the word from `at` on nothing, or an R part and then nothing or a normal word that begins with an S part?
+fn from_r_part(word: &[u8], at: usize) -> bool
+    requires { ⌜ at ≤ length (now word) ⌝ }
+    ensures { λ r. ⌜ Decides r (FromRPart (wordOf (drop at (now (word .entry))))) ⌝ }
+{
+    if at == word.len() {
+        return true;
+    }
+    if word[at] == 82 {
+        return from_s_part(word, at + 1);
+    }
+    false
+}
+
+// Is the word from `at` on nothing, or an S part and then nothing or a normal word that begins with an R part?
+fn from_s_part(word: &[u8], at: usize) -> bool
+    requires { ⌜ at ≤ length (now word) ⌝ }
+    ensures { λ r. ⌜ Decides r (FromSPart (wordOf (drop at (now (word .entry))))) ⌝ }
+{
+    if at == word.len() {
+        return true;
+    }
+    if word[at] == 82 {
+        return false;
+    }
+    if at + 1 == word.len() {
+        return true;
+    }
+    if word[at + 1] == 82 {
+        return from_r_part(word, at + 1);
+    }
+    from_r_part(word, at + 2)
+}

@@ -1,0 +1,168 @@
+// Worked values and edges of the calls on words, one line each: the call, the answer, and the first bytes of the lent slice, which
+// was full of dots. What it must print stands in `stdout`.
+use words::Refusal;
+use words::Tested;
+use words::Written;
+
+fn print_refusal(refusal: Refusal) {
+    io::write_all(1, b"refused ");
+    io::print_decimal(1, words::questions::number(refusal) as u64);
+    io::write_all(1, b" ");
+    io::print_decimal(1, words::questions::place(refusal) as u64);
+}
+
+fn print_written(answer: Written) {
+    match answer {
+        Written::Length(letters) => {
+            io::write_all(1, b"length ");
+            io::print_decimal(1, letters.0 as u64);
+        }
+        Written::Refused(refusal) => print_refusal(refusal),
+    }
+}
+
+// A word of at most twelve bytes, or its first four bytes and how many there are.
+fn print_bytes(bytes: &[u8]) {
+    if bytes.len() <= 12 {
+        io::write_all(1, bytes);
+    } else {
+        io::write_all(1, &bytes[..4]);
+        io::write_all(1, b"~");
+        io::print_decimal(1, bytes.len() as u64);
+    }
+}
+
+fn print_line(call: &[u8], word: &[u8], answer: Written, out: &[u8]) {
+    io::write_all(1, call);
+    io::write_all(1, b" '");
+    print_bytes(word);
+    io::write_all(1, b"': ");
+    print_written(answer);
+    io::write_all(1, b", '");
+    print_bytes(out);
+    io::write_all(1, b"'\n");
+}
+
+fn reduce(word: &[u8], out: &mut [u8]) {
+    let answer = words::reduce(word, out);
+    print_line(b"reduce", word, answer, out);
+}
+
+fn invert(word: &[u8], out: &mut [u8]) {
+    let answer = words::invert(word, out);
+    print_line(b"invert", word, answer, out);
+}
+
+fn is_normal(word: &[u8]) {
+    io::write_all(1, b"is_normal '");
+    print_bytes(word);
+    io::write_all(1, b"': ");
+    match words::is_normal(word) {
+        Tested::Normal => {
+            io::write_all(1, b"yes");
+        }
+        Tested::NotNormal => {
+            io::write_all(1, b"no");
+        }
+        Tested::Refused(refusal) => print_refusal(refusal),
+    }
+    io::write_all(1, b"\n");
+}
+
+// Reduces and inverts a word into slices of twelve dots.
+fn short(word: &[u8]) {
+    let mut reduced = [46u8; 12];
+    reduce(word, &mut reduced);
+    let mut inverted = [46u8; 12];
+    invert(word, &mut inverted);
+    is_normal(word);
+}
+
+// The same into slices that are just long enough for 4,096 letters.
+fn long(word: &[u8]) {
+    let mut reduced = [46u8; 4096];
+    reduce(word, &mut reduced);
+    let mut inverted = [46u8; 8192];
+    invert(word, &mut inverted);
+    is_normal(word);
+}
+
+// Puts S at a place whose remainder by `period` is not 0.
+fn put_s_at(word: &mut [u8], i: usize, period: usize) {
+    if i < word.len() {
+        if 0 < period {
+            if 0 < i % period {
+                word[i] = 83;
+            }
+        }
+    }
+}
+
+fn put_s(word: &mut [u8], period: usize) {
+    let mut i = 0;
+    while i < word.len() {
+        put_s_at(word, i, period);
+        i += 1;
+    }
+}
+
+fn words_of_4096_letters() {
+    let all_r = [82u8; 4096];
+    long(&all_r);
+    let all_s = [83u8; 4096];
+    long(&all_s);
+    let mut alternating = [82u8; 4096];
+    put_s(&mut alternating, 2);
+    long(&alternating);
+    let mut shrinking = [82u8; 4096];
+    put_s(&mut shrinking, 3);
+    long(&shrinking);
+    let mut vanishing = [82u8; 4096];
+    put_s(&mut vanishing, 4);
+    long(&vanishing);
+    let too_long = [82u8; 4097];
+    long(&too_long);
+}
+
+fn refused_letters() {
+    short(b"TRS");
+    short(b"RTS");
+    short(b"RST");
+    short(b"RS?T");
+    let mut bad_last = [82u8; 4096];
+    bad_last[4095] = 88;
+    long(&bad_last);
+    let mut bad_and_too_long = [82u8; 4097];
+    bad_and_too_long[0] = 88;
+    long(&bad_and_too_long);
+}
+
+fn room() {
+    let mut just = [46u8; 4];
+    reduce(b"RRSS", &mut just);
+    let mut one_short = [46u8; 3];
+    reduce(b"RRSS", &mut one_short);
+    let mut twice = [46u8; 4];
+    invert(b"SR", &mut twice);
+    let mut twice_less_one = [46u8; 3];
+    invert(b"SR", &mut twice_less_one);
+    let mut none = [46u8; 0];
+    reduce(b"", &mut none);
+    reduce(b"X", &mut none);
+}
+
+fn main() {
+    short(b"");
+    short(b"R");
+    short(b"S");
+    short(b"RR");
+    short(b"SSS");
+    short(b"SSSS");
+    short(b"RSSSR");
+    short(b"SR");
+    short(b"SSR");
+    short(b"RSSRS");
+    words_of_4096_letters();
+    refused_letters();
+    room();
+}

@@ -1,0 +1,126 @@
+-- Document 01's worked values P1 to P12, in one list. Assumes nothing.
+use mathlib.Core.Logic.{inr}
+use mathlib.Core.Path.{_≡_, refl}
+use mathlib.Core.List.{List, [], _∷_}
+use Prim.Native.Nat.{ℕ, suc, _≤_, zero-le}
+use native.Mathlib.Nat.{lt-of-not-le}
+use native.Mathlib.Decide.{decLe}
+use native.Mathlib.Omega.{arith}
+use lib.IntN.{pos, negsuc}
+use lib.ListN.{length}
+use Rattle.words.specs.Word.{R, S, Word, sss, none, nf, inverse}
+use Rattle.words.proofs.NormalForm.{nf-normal, equal-of-nf}
+use Rattle.unimodular.specs.Matrix.{signed, matrixOf, NormalFormOf}
+use Rattle.products.specs.Product.{letters, Reaches, Rival, NoneRight, MemberRight}
+use Rattle.worked.proofs.Trying.{misses, none-by-trying}
+
+-- P1: "RR and SSS give the empty word."
+pub P1 : (nf (R ∷ R ∷ []) ≡ []) × (nf (S ∷ S ∷ S ∷ []) ≡ [])
+unfolding nf
+P1 = (refl, refl)
+
+-- P2: "SSSS gives S."
+pub P2 : nf (S ∷ S ∷ S ∷ S ∷ []) ≡ S ∷ []
+unfolding nf
+P2 = refl
+
+-- P3: "RSSSR gives the empty word."
+pub P3 : nf (R ∷ S ∷ S ∷ S ∷ R ∷ []) ≡ []
+unfolding nf
+P3 = refl
+
+-- P4: "the inverse of SR is RSS."
+pub P4 : nf (inverse (S ∷ R ∷ [])) ≡ R ∷ S ∷ S ∷ []
+unfolding nf
+P4 = refl
+
+-- P5: "S has matrix (1 −1; 1 0)."
+pub P5 : signed (matrixOf (S ∷ [])) ≡ record { a = pos 1; b = negsuc 0; c = pos 1; d = pos 0 }
+P5 = refl
+
+-- P6: "SR has (1 1; 0 1)."
+pub P6 : signed (matrixOf (S ∷ R ∷ [])) ≡ record { a = pos 1; b = pos 1; c = pos 0; d = pos 1 }
+P6 = refl
+
+-- P7: "(1 0; 1 1) gives SSR."
+pub P7 : NormalFormOf (record { a = pos 1; b = pos 0; c = pos 1; d = pos 1 }) (S ∷ S ∷ R ∷ [])
+unfolding nf
+P7 = record { normal = nf-normal (S ∷ S ∷ R ∷ []); matrix = inr refl }
+
+-- a member with one factor more than a bound for which none is right has the least count
+least-above : (gens : List Word) (target : Word) (k : ℕ) (factors : List ℕ) → length factors ≡ suc k → NoneRight gens target k → (n : ℕ) (r : List ℕ) → Rival gens n r → Reaches gens r target → length factors ≤ length r
+least-above gens target k factors e nobody n r rival reaches =
+    elim (decLe (length factors) (length r)) [
+      | yes h ↦ h
+      | no h ↦ absurd (nobody r (record { series = rival .series; counted = rival .counted; within = omega (arith, lt-of-not-le h) }) reaches)
+    ]
+
+-- P8: "empty list, empty target, n 0: member 0."
+pub P8 : MemberRight [] [] 0 [] 0
+P8 =
+    record {
+      rival = record { series = tt; counted = tt; within = zero-le };
+      reaches = none;
+      counts = refl;
+      least = λ r rival reaches. zero-le;
+    }
+
+-- P9: "empty list, target R, n 1000: none."
+pub P9 : NoneRight [] (R ∷ []) 1000
+unfolding nf misses
+P9 = none-by-trying [] (R ∷ []) 1000 refl
+
+-- P10: "generators RS, S; target R; n 3: member 3, by 0 1 1; with n 2, none."
+abbrev pub list10 : List Word
+list10 = (R ∷ S ∷ []) ∷ (S ∷ []) ∷ []
+
+pub P10-none : NoneRight list10 (R ∷ []) 2
+unfolding nf misses
+P10-none = none-by-trying list10 (R ∷ []) 2 refl
+
+pub P10 : MemberRight list10 (R ∷ []) 3 (0 ∷ 1 ∷ 1 ∷ []) 3
+unfolding nf
+P10 =
+    record {
+      rival = record { series = (omega arith, (omega arith, (omega arith, tt))); counted = tt; within = omega arith };
+      reaches = equal-of-nf (letters list10 (0 ∷ 1 ∷ 1 ∷ [])) (R ∷ []) refl;
+      counts = refl;
+      least = least-above list10 (R ∷ []) 2 (0 ∷ 1 ∷ 1 ∷ []) refl P10-none 3;
+    }
+
+-- P11: "generators RSRS, S, SRSS; target R; n 3: member with count 3, reached by 0 1 2; with n 2, none." The three S's that cancel come
+-- from three factors.
+abbrev pub list11 : List Word
+list11 = (R ∷ S ∷ R ∷ S ∷ []) ∷ (S ∷ []) ∷ (S ∷ R ∷ S ∷ S ∷ []) ∷ []
+
+pub P11-none : NoneRight list11 (R ∷ []) 2
+unfolding nf misses
+P11-none = none-by-trying list11 (R ∷ []) 2 refl
+
+pub P11 : MemberRight list11 (R ∷ []) 3 (0 ∷ 1 ∷ 2 ∷ []) 3
+unfolding nf
+P11 =
+    record {
+      rival = record { series = (omega arith, (omega arith, (omega arith, tt))); counted = tt; within = omega arith };
+      reaches = equal-of-nf (letters list11 (0 ∷ 1 ∷ 2 ∷ [])) (R ∷ []) refl;
+      counts = refl;
+      least = least-above list11 (R ∷ []) 2 (0 ∷ 1 ∷ 2 ∷ []) refl P11-none 3;
+    }
+
+-- P12: "generator SSS, empty target, n 5: member 0, not 1."
+abbrev pub list12 : List Word
+list12 = (S ∷ S ∷ S ∷ []) ∷ []
+
+pub P12 : MemberRight list12 [] 5 [] 0
+P12 =
+    record {
+      rival = record { series = tt; counted = tt; within = zero-le };
+      reaches = none;
+      counts = refl;
+      least = λ r rival reaches. zero-le;
+    }
+
+-- .. though one factor reaches the empty target too
+pub P12-not-1 : Reaches list12 (0 ∷ []) [] × (MemberRight list12 [] 5 (0 ∷ []) 1 → ⊥)
+P12-not-1 =
+    (sss [] [], λ m. let below = m .least [] (record { series = tt; counted = tt; within = zero-le }) none in omega arith)
