@@ -1,4 +1,4 @@
--- States, what it is that a series leads or ends somewhere, and the six rules by which a series ends.
+-- What it is that a series ends at a state, and the six rules by which it does. States and `Leads` are definitions of specs/State.antt.
 --     step-leads, step-ends    each rule keeps `Leads` and keeps `Ends`
 --     ends-leads               what ends at a state leads there
 --     leads-ends-nothing       where nothing is left the two are the same
@@ -10,6 +10,7 @@ use Prim.Native.Nat.{ℕ}
 use Rattle.words.specs.Word.{Letter, R, S, Word, Equal, rr, sss, none, then}
 use Rattle.words.proofs.NormalForm.{equal-path, equal-inside, equal-behind, equal-before}
 use Rattle.products.specs.Product.{generator, Factor, Series, letters}
+pub use Rattle.products.specs.State.{State, nothing, suffix, Leads}
 
 -- the word does not begin with S
 abbrev pub NotS : Word → Type 0
@@ -44,18 +45,8 @@ module _ (gens : List Word) where
   series-behind [] b h = h
   series-behind (j ∷ a) b h = series-behind a b (h .1)
 
-  -- A state is a suffix of a generator, as a word; the empty word is one even where the list is empty.
-  pub data State : Word → Type 0 where
-    nothing : State []
-    suffix : (j : ℕ) (p : Word) {q : Word} → Factor gens j → generator gens j ≡ p ++ q → State q
-
-  pub state-tail : {a : Letter} {q : Word} → State (a ∷ q) → State q
+  pub state-tail : {a : Letter} {q : Word} → State gens (a ∷ q) → State gens q
   state-tail {a} {q} (suffix j p f g) = suffix j (p ++ a ∷ []) f (g ∙ sym (append-assoc p (a ∷ []) q))
-
-  -- r leads from u to v
-  pub record Leads (u : Word) (r : List ℕ) (v : Word) : Type 0 where
-    pub series : Series gens r
-    pub equal : Equal (u ++ letters gens r) v
 
   -- r ends at q from u: r is a series with one more number `last` behind it, that generator is `part ++ q`, and all before q cancels
   pub record Ends (u : Word) (r : List ℕ) (q : Word) : Type 0 where
@@ -71,19 +62,19 @@ module _ (gens : List Word) where
   -- One rule, with what it asks of smaller instances as a parameter. Each word in the place of a state is a state.
   pub data Step (P : Word → List ℕ → Word → Type 0) : Word → List ℕ → Word → Type 0 where
     A : (j : ℕ) → Factor gens j → Step P [] (j ∷ []) (generator gens j)
-    B : {x q : Word} {r : List ℕ} → State (R ∷ q) → P x r (R ∷ q) → Step P (R ∷ x) r q
-    C : {x q : Word} {r : List ℕ} → State (S ∷ q) → P x r (S ∷ q) → Step P (S ∷ S ∷ x) r q
-    D : {x q : Word} {r : List ℕ} → NotS x → State (S ∷ S ∷ q) → P x r (S ∷ S ∷ q) → Step P (S ∷ x) r q
-    E : {x w q : Word} {a b : List ℕ} → NotS x → State (S ∷ w) → State (S ∷ q) → P x a (S ∷ w) → P w b (S ∷ q) → Step P (S ∷ x) (a ++ b) q
-    F : {u v q : Word} {a b : List ℕ} → State v → State q → P u a v → P v b q → Step P u (a ++ b) q
+    B : {x q : Word} {r : List ℕ} → State gens (R ∷ q) → P x r (R ∷ q) → Step P (R ∷ x) r q
+    C : {x q : Word} {r : List ℕ} → State gens (S ∷ q) → P x r (S ∷ q) → Step P (S ∷ S ∷ x) r q
+    D : {x q : Word} {r : List ℕ} → NotS x → State gens (S ∷ S ∷ q) → P x r (S ∷ S ∷ q) → Step P (S ∷ x) r q
+    E : {x w q : Word} {a b : List ℕ} → NotS x → State gens (S ∷ w) → State gens (S ∷ q) → P x a (S ∷ w) → P w b (S ∷ q) → Step P (S ∷ x) (a ++ b) q
+    F : {u v q : Word} {a b : List ℕ} → State gens v → State gens q → P u a v → P v b q → Step P u (a ++ b) q
 
-  pub ends-state : {u q : Word} {r : List ℕ} → Ends u r q → State q
+  pub ends-state : {u q : Word} {r : List ℕ} → Ends u r q → State gens q
   ends-state e = suffix (e .last) (e .part) (e .factor) (e .generates)
 
   pub ends-not-empty : {u q : Word} {r : List ℕ} → Ends u r q → r ≢ []
   ends-not-empty e h = concat-ne-nil (e .last) (e .front) (sym (e .split) ∙ h)
 
-  pub ends-leads : {u q : Word} {r : List ℕ} → Ends u r q → Leads u r q
+  pub ends-leads : {u q : Word} {r : List ℕ} → Ends u r q → Leads gens u r q
   ends-leads {u} {q} {r} e =
       record {
         series = rw (e .split) (series-append (e .front) (e .last ∷ []) (e .series) (e .factor, tt));
@@ -93,7 +84,7 @@ module _ (gens : List Word) where
       whole : u ++ letters gens r ≡ (u ++ (letters gens (e .front) ++ e .part)) ++ q
       whole = rw (e .split, letters-snoc (e .front) (e .last), e .generates) (simp append-assoc)
 
-  pub leads-ends-nothing : {u : Word} {r : List ℕ} → Leads u r [] → r ≢ [] → Ends u r []
+  pub leads-ends-nothing : {u : Word} {r : List ℕ} → Leads gens u r [] → r ≢ [] → Ends u r []
   leads-ends-nothing {u} {r} l h =
       let (front, last, e) = series-last r h in
       let s : Series gens (front ++ last ∷ []) = rw e at (l .series) in
@@ -108,7 +99,7 @@ module _ (gens : List Word) where
         cancels = rw (e, letters-snoc front last) at (l .equal);
       }
 
-  pub leads-append : {u v w : Word} {a b : List ℕ} → Leads u a v → Leads v b w → Leads u (a ++ b) w
+  pub leads-append : {u v w : Word} {a b : List ℕ} → Leads gens u a v → Leads gens v b w → Leads gens u (a ++ b) w
   leads-append {u} {v} {w} {a} {b} l m =
       record {
         series = series-append a b (l .series) (m .series);
@@ -117,11 +108,11 @@ module _ (gens : List Word) where
             (then (equal-before (letters gens b) (l .equal)) (m .equal));
       }
 
-  pub leads-behind : (p : Word) {u v : Word} {r : List ℕ} → Leads u r v → Leads (p ++ u) r (p ++ v)
+  pub leads-behind : (p : Word) {u v : Word} {r : List ℕ} → Leads gens u r v → Leads gens (p ++ u) r (p ++ v)
   leads-behind p {u} {v} {r} l = record { series = l .series; equal = rw (append-assoc p u (letters gens r)) (equal-behind p (l .equal)) }
 
   -- what is put in front of u cancels with the letters in front of q
-  leads-cancel : (p c : Word) {u q : Word} {r : List ℕ} → Equal (p ++ c) [] → Leads u r (c ++ q) → Leads (p ++ u) r q
+  leads-cancel : (p c : Word) {u q : Word} {r : List ℕ} → Equal (p ++ c) [] → Leads gens u r (c ++ q) → Leads gens (p ++ u) r q
   leads-cancel p c {u} {q} {r} n l =
       record { series = l .series; equal = then (leads-behind p l .equal) (rw (append-assoc p c q) at (equal-before q n)) }
 
@@ -141,7 +132,7 @@ module _ (gens : List Word) where
       regrouped : (p ++ u) ++ (letters gens (e .front) ++ (e .part ++ c)) ≡ p ++ ((u ++ (letters gens (e .front) ++ e .part)) ++ c)
       regrouped = simp append-assoc
 
-  pub leads-ends-append : {u v q : Word} {a b : List ℕ} → Leads u a v → Ends v b q → Ends u (a ++ b) q
+  pub leads-ends-append : {u v q : Word} {a b : List ℕ} → Leads gens u a v → Ends v b q → Ends u (a ++ b) q
   leads-ends-append {u} {v} {q} {a} {b} l e =
       record {
         front = a ++ e .front;
@@ -157,7 +148,7 @@ module _ (gens : List Word) where
       regrouped : u ++ (letters gens (a ++ e .front) ++ e .part) ≡ (u ++ letters gens a) ++ (letters gens (e .front) ++ e .part)
       regrouped = rw (letters-append a (e .front)) (simp append-assoc)
 
-  pub step-leads : {u q : Word} {r : List ℕ} → Step Leads u r q → Leads u r q
+  pub step-leads : {u q : Word} {r : List ℕ} → Step (Leads gens) u r q → Leads gens u r q
   step-leads (A j f) = record { series = (f, tt); equal = equal-path (append-nil (generator gens j)) }
   step-leads (B s l) = leads-cancel (R ∷ []) (R ∷ []) (rr [] []) l
   step-leads (C s l) = leads-cancel (S ∷ S ∷ []) (S ∷ []) (sss [] []) l

@@ -4,7 +4,18 @@ use mathlib.Core.Path.{_≡_}
 use mathlib.Core.List.{List, [], _∷_, _++_}
 use Prim.Native.Nat.{ℕ, _≤_, _<_}
 use lib.ListN.{length, getD}
+use lib.Seq.{slice}
 use Rattle.words.specs.Word.{Word, Equal}
+use Rattle.words.specs.Bytes.{word}
+
+-- 01: "A list is a slice of letters with a slice of 16-bit ends. Generator i, counted from 0, runs from the end before it (0 for the
+-- first) up to its own end." Here `from` is the end before the next generator.
+abbrev pub generatorsFrom : List ℕ → ℕ → List ℕ → List Word
+generatorsFrom bytes from [] = []
+generatorsFrom bytes from (end ∷ ends) = word (slice from end bytes) ∷ generatorsFrom bytes end ends
+
+abbrev pub generators : List ℕ → List ℕ → List Word
+generators bytes ends = generatorsFrom bytes 0 ends
 
 -- The generators of a list, as words; generator i is counted from 0.
 abbrev pub generator : List Word → ℕ → Word

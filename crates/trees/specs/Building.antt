@@ -1,0 +1,39 @@
+-- What building a tree promises. Assumes nothing: these are definitions.
+use mathlib.Core.Path.{_≡_}
+use mathlib.Core.List.{List, []}
+use Prim.Native.Nat.{ℕ, suc, _≤_, _<_}
+use lib.ListN.{length}
+use Rattle.words.specs.Word.{Word}
+use Rattle.products.specs.Product.{generators}
+use Rattle.trees.specs.Tree.{at, Tree}
+use Rattle.trees.specs.declared.Built.{Built}
+use Rattle.trees.specs.declared.Built.the-variants.{Nodes, Unfit}
+
+-- The ends never fall and stay within the letters, and each lent slice has room: for a node more than there are letters, and for just
+-- the generators.
+pub record Fits (bytes ends letters rests childrenR childrenS wholes : List ℕ) : Type 0 where
+  pub few : length bytes < 65535
+  pub rising : (i j : ℕ) → i ≤ j → j < length ends → at ends i ≤ at ends j
+  pub within : (j : ℕ) → j < length ends → at ends j ≤ length bytes
+  pub room-letters : length bytes < length letters
+  pub room-rests : length bytes < length rests
+  pub room-r : length bytes < length childrenR
+  pub room-s : length bytes < length childrenS
+  pub room-wholes : length wholes ≡ length ends
+
+-- The five lent slices of a tree.
+pub record Slices : Type 0 where
+  pub letters : List ℕ
+  pub rests : List ℕ
+  pub childrenR : List ℕ
+  pub childrenS : List ℕ
+  pub wholes : List ℕ
+
+-- Where the inputs fit, the slices hold the tree of the list's generators, and the answer is how many nodes it has; else nothing changes.
+abbrev pub Builds : List ℕ → List ℕ → Slices → Slices → Built → Type 0
+Builds bytes ends before after (Nodes count) =
+    Fits bytes ends (before .letters) (before .rests) (before .childrenR) (before .childrenS) (before .wholes)
+    × ((words : List Word) × (length words ≡ count) × Tree (generators bytes ends) words (after .letters) (after .rests) (after .childrenR) (after .childrenS) (after .wholes))
+    × (count ≤ suc (length bytes))
+Builds bytes ends before after Unfit =
+    (Fits bytes ends (before .letters) (before .rests) (before .childrenR) (before .childrenS) (before .wholes) → ⊥) × (after ≡ before)
