@@ -13,7 +13,7 @@ use Rattle.products.proofs.Runs.{Run, stop, more, run-cut, run-all, run
 use Rattle.products.proofs.OneStep.{AllReduced, state-reduced}
 
 -- reduced words that are equal are the same
-equal-reduced : {u v : Word} → Reduced u → Reduced v → Equal u v → u ≡ v
+pub equal-reduced : {u v : Word} → Reduced u → Reduced v → Equal u v → u ≡ v
 equal-reduced {u} {v} h k e = sym (nf-of-reduced u h) ∙ nf-of-equal e ∙ nf-of-reduced v k
 
 module _ (gens : List Word) where

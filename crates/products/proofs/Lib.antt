@@ -9,3 +9,9 @@ pub mod Undo
 pub mod Rows
 pub mod Reducing
 pub mod Rivals
+pub mod Exact
+pub mod Tight
+pub mod Verdict
+pub mod Spelling
+pub mod Walking
+pub mod Generators

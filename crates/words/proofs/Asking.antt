@@ -39,6 +39,19 @@ first-no-refused [] rest e = absurd (passed-not-refused (sym e))
 first-no-refused (Passed ∷ questions) rest e = first-no-refused questions rest e
 first-no-refused (Refused refusal ∷ questions) rest e = e
 
+-- the same of the first question alone, and of one that is a test
+pub passed-first : (question : Asked) (rest : List Asked) → question ≡ Passed → firstNo (question ∷ rest) ≡ firstNo rest
+passed-first question rest e = ap (λ (q : Asked). firstNo (q ∷ rest)) e
+
+pub refused-first : (question : Asked) (rest : List Asked) {refusal : Refusal} → question ≡ Refused refusal → firstNo (question ∷ rest) ≡ Refused refusal
+refused-first question rest e = ap (λ (q : Asked). firstNo (q ∷ rest)) e
+
+pub yes-first : (test : Bool) (refusal : Refusal) (rest : List Asked) → test ≡ true → firstNo (asks test refusal ∷ rest) ≡ firstNo rest
+yes-first test refusal rest e = passed-first (asks test refusal) rest (asks-yes test refusal e)
+
+pub no-first : (test : Bool) (refusal : Refusal) (rest : List Asked) → test ≡ false → firstNo (asks test refusal ∷ rest) ≡ Refused refusal
+no-first test refusal rest e = refused-first (asks test refusal) rest (asks-no test refusal e)
+
 pub first-no-one : (question : Asked) → firstNo (question ∷ []) ≡ question
 first-no-one Passed = refl
 first-no-one (Refused refusal) = refl

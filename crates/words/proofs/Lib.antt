@@ -4,6 +4,7 @@ pub mod Inverse
 pub mod Bytes
 pub mod Slices
 pub mod Asking
+pub mod Answering
 pub mod FirstOther
 mod Parts
 mod Stack

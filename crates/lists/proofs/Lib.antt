@@ -1,0 +1,9 @@
+pub mod Rising
+pub mod FirstOthers
+pub mod Passing
+mod Refusing
+mod NormalForms
+mod Behind
+mod Forms
+mod Answering
+pub mod NormalList

@@ -1,0 +1,47 @@
+-- What it says that a list and a target have passed questions 7 to 10. Assumes nothing.
+use mathlib.Core.Path.{_≡_, sym, _∙_}
+use mathlib.Core.List.{List, [], _∷_, _++_}
+use Prim.Native.Nat.{ℕ, _≤_}
+use lib.Dec.{leb, eqb}
+use lib.ListN.{length}
+use borrow.Author.Tests.{leb-true, eqb-true}
+use Rattle.words.specs.Questions.{asks, firstNo, firstOther, question8, question10}
+use Rattle.words.specs.declared.Refusal.the-variants.{TooManyGenerators, TooManyLetters, EndsWrong, NotALetter}
+use Rattle.words.specs.declared.Asked.{Asked}
+use Rattle.words.specs.declared.Asked.the-variants.{Passed}
+use Rattle.words.proofs.Asking.{asks-passed, first-no-head, first-no-tail, first-no-one}
+use Rattle.lists.specs.Questions.{question7, firstFall, lastEnd, question9, ofList}
+use Rattle.lists.specs.Reducing.{AllLetters}
+
+pub record ListPassed (bytes ends target : List ℕ) : Type 0 where
+  pub few : length ends ≤ 64
+  pub short : length bytes ≤ 4096
+  pub target-short : length target ≤ 4096
+  pub none-falls : length ends ≤ firstFall 0 ends
+  pub last : lastEnd 0 ends ≡ length bytes
+  pub letters : AllLetters (bytes ++ target)
+
+pub list-passed : (bytes ends target : List ℕ) → ofList bytes ends target ≡ Passed → ListPassed bytes ends target
+list-passed bytes ends target e =
+    let from10 : List Asked = question10 (bytes ++ target) ∷ [] in
+    let from9 : List Asked = question9 ends (length bytes) ∷ from10 in
+    let from8 : List Asked = question8 (length target) ∷ from9 in
+    let e8 : firstNo (question8 (length bytes) ∷ from8) ≡ Passed = first-no-tail (question7 (length ends)) (question8 (length bytes) ∷ from8) e in
+    let e8t : firstNo from8 ≡ Passed = first-no-tail (question8 (length bytes)) from8 e8 in
+    let e9 : firstNo from9 ≡ Passed = first-no-tail (question8 (length target)) from9 e8t in
+    let e10 : firstNo from10 ≡ Passed = first-no-tail (question9 ends (length bytes)) from10 e9 in
+    let right : question9 ends (length bytes) ≡ Passed = first-no-head (question9 ends (length bytes)) from10 e9 in
+    let fall : Asked = asks (leb (length ends) (firstFall 0 ends)) (EndsWrong (firstFall 0 ends)) in
+    let ending : Asked = asks (eqb (lastEnd 0 ends) (length bytes)) (EndsWrong (length ends)) in
+    record {
+      few = leb-true (length ends) 64 (asks-passed (leb (length ends) 64) TooManyGenerators (first-no-head (question7 (length ends)) (question8 (length bytes) ∷ from8) e));
+      short = leb-true (length bytes) 4096 (asks-passed (leb (length bytes) 4096) TooManyLetters (first-no-head (question8 (length bytes)) from8 e8));
+      target-short = leb-true (length target) 4096 (asks-passed (leb (length target) 4096) TooManyLetters (first-no-head (question8 (length target)) from9 e8t));
+      none-falls = leb-true (length ends) (firstFall 0 ends) (asks-passed (leb (length ends) (firstFall 0 ends)) (EndsWrong (firstFall 0 ends)) (first-no-head fall (ending ∷ []) right));
+      last =
+          eqb-true (lastEnd 0 ends) (length bytes)
+          (asks-passed (eqb (lastEnd 0 ends) (length bytes)) (EndsWrong (length ends)) (sym (first-no-one ending) ∙ first-no-tail fall (ending ∷ []) right));
+      letters =
+          leb-true (length (bytes ++ target)) (firstOther (bytes ++ target))
+          (asks-passed (leb (length (bytes ++ target)) (firstOther (bytes ++ target))) (NotALetter (firstOther (bytes ++ target))) (sym (first-no-one (question10 (bytes ++ target))) ∙ e10));
+    }

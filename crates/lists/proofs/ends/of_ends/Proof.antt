@@ -1,0 +1,47 @@
+-- Each answer is the first no by the tests on the way. Assumes nothing.
+use mathlib.Core.Path.{sym, _∙_}
+use Rattle.lists.proofs.Refusing.{an-end-falls, ends-right, last-end-wrong}
+use native.Mathlib.Omega.{arith}
+use borrow.Author.Needs.{needs}
+use Rattle.lists.proofs.ends.of_ends.Statement.{statement}
+use Rattle.lists.proofs.ends.of_ends.Tie as tie
+use Rattle.lists.proofs.ends.of_ends.Reads as reads
+use Rattle.lists.proofs.ends.of_ends.Lts as lts
+use Rattle.lists.proofs.ends.first_fall.Reads as first-fall-reads
+use Rattle.lists.proofs.ends.last_end.Reads as last-end-reads
+
+-- src/ends.rt:48:9
+first-fall-requires : tie.Need-first-fall-requires
+first-fall-requires c κs = search needs
+
+-- src/ends.rt:50:9
+returns : tie.Need-returns
+returns c =
+    let ends = c .before .before .before .args .ends .now in
+    let letters = c .before .before .before .args .letters in
+    let fall = c .before .first-fall .ensures in
+    rw fall (sym (an-end-falls ends letters (rw fall at (c .if1 .taken))))
+
+-- src/ends.rt:52:8
+last-end-requires : tie.Need-last-end-requires
+last-end-requires c κs = search needs
+
+-- src/ends.rt:53:9
+returns-2 : tie.Need-returns-2
+returns-2 c =
+    let ends = c .before .before .before .before .before .args .ends .now in
+    let letters = c .before .before .before .before .before .args .letters in
+    let fall = c .before .before .before .first-fall .ensures in
+    sym (ends-right ends letters (rw fall at (c .before .before .if1 .left)) (sym (c .before .last-end .ensures) ∙ c .if2 .taken))
+
+-- src/ends.rt:45:1
+returns-3 : tie.Need-returns-3
+returns-3 c =
+    let ends = c .before .before .before .before .before .args .ends .now in
+    let letters = c .before .before .before .before .before .args .letters in
+    let fall = c .before .before .before .first-fall .ensures in
+    sym (last-end-wrong ends letters (rw fall at (c .before .before .if1 .left)) (λ e. c .if2 .left (c .before .last-end .ensures ∙ e)))
+
+pub of-ends-spec : {M : Type 1} → statement M
+of-ends-spec =
+    tie.close (tie.spec first-fall-requires returns last-end-requires returns-2 returns-3)

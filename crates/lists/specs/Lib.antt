@@ -1,0 +1,4 @@
+pub mod Questions
+pub mod NormalList
+pub mod Calls
+pub mod Reducing

@@ -1,0 +1,63 @@
+// Lists of generators: the questions about a list's slices, and the list with its generators reduced. Every call takes any slices
+// whatever.
+mod ends;
+mod reducing;
+
+use words::Asked;
+use words::Letters;
+use words::Refusal;
+use words::Written;
+ghost use mathlib.Core.Path.{_≡_};
+ghost use Rattle.lists.specs.Questions.{ofList};
+ghost use Rattle.lists.specs.Reducing.{Checked};
+ghost use Rattle.lists.specs.Calls.{ReducesList};
+
+// Questions 7, 8, 9 and 10 of a list and a target.
+pub fn of_list(bytes: &[u8], ends: &[u16], target: &[u8]) -> Asked
+    ensures { λ r. ⌜ r ≡ ofList (now (bytes .entry)) (now (ends .entry)) (now (target .entry)) ⌝ }
+{
+    if 64 < ends.len() {
+        return Asked::Refused(Refusal::TooManyGenerators);
+    }
+    if 4096 < bytes.len() {
+        return Asked::Refused(Refusal::TooManyLetters);
+    }
+    if 4096 < target.len() {
+        return Asked::Refused(Refusal::TooManyLetters);
+    }
+    match ends::of_ends(ends, bytes.len()) {
+        Asked::Refused(refusal) => Asked::Refused(refusal),
+        Asked::Passed => ends::of_all_letters(bytes, target),
+    }
+}
+
+// Writes the normal forms of the list's generators to the front of `out`, one behind the other, and their ends to the front of
+// `out_ends`. The answer is m, the sum of their lengths.
+pub fn reduce_list(bytes: &[u8], ends: &[u16], out: &mut [u8], out_ends: &mut [u16]) -> Written
+    ensures { λ r. ⌜ ReducesList (now (bytes .entry)) (now (ends .entry)) (now (out .entry)) (now («out_ends» .entry)) r (now (out .exit)) (now («out_ends» .exit)) ⌝ }
+{
+    let no_target = [0u8; 0];
+    match of_list(bytes, ends, &no_target) {
+        Asked::Refused(refusal) => Written::Refused(refusal),
+        Asked::Passed => reduce_checked(bytes, ends, out, out_ends),
+    }
+}
+
+// The same, of a list that has passed questions 7 to 10.
+fn reduce_checked(bytes: &[u8], ends: &[u16], out: &mut [u8], out_ends: &mut [u16]) -> Written
+    requires { ⌜ Checked (now bytes) (now ends) ⌝ }
+    ensures { λ r. ⌜ ReducesList (now (bytes .entry)) (now (ends .entry)) (now (out .entry)) (now («out_ends» .entry)) r (now (out .exit)) (now («out_ends» .exit)) ⌝ }
+{
+    let measured = reducing::measure(bytes, ends);
+    if measured.long < ends.len() {
+        return Written::Refused(Refusal::GeneratorTooLong(measured.long));
+    }
+    if out.len() < measured.sum {
+        return Written::Refused(Refusal::OutputTooShort);
+    }
+    if out_ends.len() < ends.len() {
+        return Written::Refused(Refusal::OutputTooShort);
+    }
+    reducing::write_forms(bytes, ends, out, out_ends);
+    Written::Length(Letters(measured.sum as u16))
+}
