@@ -1,0 +1,4 @@
+pub mod Questions
+pub mod Calls
+pub mod Path
+pub mod Witness

@@ -1,0 +1,43 @@
+-- The witness: inner contracts of the engine. Assumes nothing: these are definitions.
+use mathlib.Core.Path.{_≡_}
+use mathlib.Core.Logic.{_≢_}
+use mathlib.Core.List.{List, []}
+use Prim.Native.Nat.{ℕ, suc, _*_, _≤_, _<_}
+use lib.ListN.{length, take, drop}
+use Rattle.words.specs.Word.{Word, Normal}
+use Rattle.words.specs.Bytes.{word}
+use Rattle.products.specs.Product.{Series, Reaches, measure}
+use Rattle.products.specs.State.{AllNormal, LeastLead}
+use Rattle.trees.specs.Tree.{at, wordAt, Tree}
+use Rattle.tables.specs.Rules.{place}
+use Rattle.engine.specs.Path.{PathRows}
+
+-- All that is known when the witness is walked: a tree of reduced generators, its exact table, and the rows of a normal target that is not
+-- empty, whose last entry is within the bound.
+pub record Decided (gens words : List Word) (count n : ℕ) (letters rests childrenR childrenS wholes target table rows : List ℕ) : Type 0 where
+  pub normal : AllNormal gens
+  pub tree : Tree gens words letters rests childrenR childrenS wholes
+  pub size : length words ≡ count
+  pub few : count ≤ 321
+  pub bound : n ≤ 1000
+  pub numbers : length gens ≤ 64
+  pub exact : (p q : ℕ) → p < count → q < count → LeastLead gens n (wordAt words p) (wordAt words q) (at table (place count p q))
+  pub rows-right : PathRows count n childrenR childrenS target table rows (length target)
+  pub target-normal : Normal (word target)
+  pub target-some : word target ≢ []
+  pub target-short : length target ≤ 80
+  pub table-room : count * count ≤ length table
+  pub rows-room : suc (length target) * count ≤ length rows
+  pub within : at rows (place count (length target) 0) ≤ n
+
+abbrev pub SomeDecided : ℕ → ℕ → List ℕ → List ℕ → List ℕ → List ℕ → List ℕ → List ℕ → List ℕ → List ℕ → Type 0
+SomeDecided count n letters rests childrenR childrenS wholes target table rows =
+    (gens : List Word) × (words : List Word) × Decided gens words count n letters rests childrenR childrenS wholes target table rows
+
+-- The first k bytes are the factors of a series that reaches the target, k is their number and the last row's entry, and the rest remains.
+pub record Spelled (gens : List Word) (target : Word) (k entry : ℕ) (before after : List ℕ) : Type 0 where
+  pub series : Series gens (take k after)
+  pub reaches : Reaches gens (take k after) target
+  pub counts : length (take k after) ≡ k
+  pub least : k ≡ entry
+  pub rest : drop k after ≡ drop k before

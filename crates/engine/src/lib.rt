@@ -1,0 +1,10 @@
+// The bounded verdict: is the target a product of at most n generators?
+use words::Factors;
+use words::Refusal;
+
+// The verdict: a member with the count of the factors that were written, none, or the refusal.
+pub enum Verdict {
+    Member(Factors),
+    None,
+    Refused(Refusal),
+}
