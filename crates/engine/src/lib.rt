@@ -1,4 +1,6 @@
 // The bounded verdict: is the target a product of at most n generators?
+mod zeroing;
+
 use words::Factors;
 use words::Refusal;
 

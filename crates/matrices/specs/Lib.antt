@@ -1,3 +1,5 @@
 pub mod Entries
 pub mod Questions
 pub mod Calls
+pub mod Forming
+pub mod Peeling

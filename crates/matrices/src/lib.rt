@@ -1,9 +1,26 @@
 // Elements of the modular group as 2 by 2 matrices of determinant 1, up to sign: a word turned into its matrix, and a matrix into its
 // normal form. Both calls take any input whatever.
+mod copying;
+mod ending;
+mod forming;
+mod peeling;
+mod questions;
+mod sign;
+mod times_r;
+mod times_s;
+
+use words::Asked;
+use words::Letters;
 use words::Refusal;
 use words::Written;
+ghost use mathlib.Core.Path.{_≡_};
+ghost use Prim.Native.Nat.{_≤_};
+ghost use lib.ListN.{length};
+ghost use Rattle.words.specs.Slices.{written};
+ghost use Rattle.words.specs.Calls.{lengthOr};
 ghost use Rattle.matrices.specs.Entries.{matrix};
 ghost use Rattle.matrices.specs.Calls.{TurnsWord, TurnsMatrix};
+ghost use Rattle.matrices.specs.Peeling.{ofLength};
 
 // (a b; c d)
 pub struct Matrix {
@@ -17,4 +34,48 @@ pub struct Matrix {
 pub enum Turned {
     Into(Matrix),
     Refused(Refusal),
+}
+
+// The matrix of `word`. The reduction puts questions 8 and 10; its own question 14 is then answered yes, since `form` has 4,096 bytes.
+pub fn word_to_matrix(word: &[u8]) -> Turned
+    ensures { λ r. ⌜ TurnsWord (now (word .entry)) r ⌝ }
+{
+    let mut form = [0u8; 4096];
+    match words::reduce(word, &mut form) {
+        Written::Refused(refusal) => Turned::Refused(refusal),
+        Written::Length(letters) => {
+            let len = letters.0 as usize;
+            forming::of_normal_form(&form[..len])
+        }
+    }
+}
+
+// Questions 12 and 14 of a normal form, which is then written to the front of `out`.
+fn write_out(form: &[u8], out: &mut [u8]) -> Written
+    requires { ⌜ length (now form) ≤ 82 ⌝ }
+    ensures { λ r. ⌜ r ≡ lengthOr (ofLength (length (now (form .entry))) (length (now (out .entry)))) (length (now (form .entry))) ⌝ }
+    ensures { λ _. ⌜ now (out .exit) ≡ written (ofLength (length (now (form .entry))) (length (now (out .entry)))) (now (form .entry)) (now (out .entry)) ⌝ }
+{
+    if 80 < form.len() {
+        return Written::Refused(Refusal::NormalFormTooLong);
+    }
+    if out.len() < 80 {
+        return Written::Refused(Refusal::OutputTooShort);
+    }
+    copying::copy(form, out);
+    Written::Length(Letters(form.len() as u16))
+}
+
+// Writes the normal form of `m` to the front of `out`.
+pub fn matrix_to_word(m: Matrix, out: &mut [u8]) -> Written
+    ensures { λ r. ⌜ TurnsMatrix (matrix m) (now (out .entry)) r (now (out .exit)) ⌝ }
+{
+    match questions::of_entries(m) {
+        Asked::Refused(refusal) => Written::Refused(refusal),
+        Asked::Passed => {
+            let mut form = [0u8; 82];
+            let at = peeling::peel_all(m, &mut form);
+            write_out(&form[at..], out)
+        }
+    }
 }

@@ -1,2 +1,4 @@
 pub mod Tree
 pub mod Building
+pub mod Ends
+pub mod Growing

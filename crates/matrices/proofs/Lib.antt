@@ -1,0 +1,9 @@
+pub mod Signed
+mod Range
+mod Signs
+mod Endings
+mod Parts
+mod Forms
+mod Writing
+mod Reduction
+pub mod RoundTrip

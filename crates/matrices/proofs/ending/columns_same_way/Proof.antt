@@ -1,0 +1,43 @@
+-- Both rows point the same way. Assumes nothing.
+use mathlib.Core.Path.{refl}
+use mir.Syntax.{w64}
+use mir.Val.{SFits}
+use Rattle.unimodular.proofs.Rows.{sameWay}
+use Rattle.matrices.proofs.Signed.{of-readings}
+use Rattle.matrices.proofs.Endings.{both, not-both}
+use borrow.Author.Needs.{needs}
+use Rattle.matrices.proofs.ending.columns_same_way.Statement.{statement}
+use Rattle.matrices.proofs.ending.columns_same_way.Tie as tie
+use Rattle.matrices.proofs.ending.columns_same_way.Reads as reads
+use Rattle.matrices.proofs.ending.columns_same_way.Lts as lts
+use Rattle.matrices.proofs.ending.same_way.Reads as same-way-reads
+
+-- src/ending.rt:71:8
+same-way-requires : tie.Need-same-way-requires
+same-way-requires c κs = search needs
+
+-- src/ending.rt:72:9
+same-way-requires-2 : tie.Need-same-way-requires-2
+same-way-requires-2 c κs = search needs
+
+-- src/ending.rt:72:9
+returns : tie.Need-returns
+returns c =
+    let m = c .before .before .before .before .before .before .before .args .m in
+    let f : SFits w64 (m .a) = search needs in
+    let g : SFits w64 (m .b) = search needs in
+    let h : SFits w64 (m .c) = search needs in
+    let k : SFits w64 (m .d) = search needs in
+    both (of-readings sameWay f g (c .before .before .before .before .same-way .ensures) (c .before .before .before .if1 .taken)) (of-readings sameWay h k (c .same-way2 .ensures) refl)
+
+-- src/ending.rt:68:1
+returns-2 : tie.Need-returns-2
+returns-2 c =
+    let m = c .before .before .before .before .args .m in
+    let f : SFits w64 (m .a) = search needs in
+    let g : SFits w64 (m .b) = search needs in
+    not-both (sameWay (m .c) (m .d)) (of-readings sameWay f g (c .before .same-way .ensures) (c .if1 .left))
+
+pub columns-same-way-spec : {M : Type 1} → statement M
+columns-same-way-spec =
+    tie.close (tie.spec same-way-requires same-way-requires-2 returns returns-2)

@@ -1,0 +1,81 @@
+-- After i turns m is the matrix of the first i letters. Assumes nothing.
+use mathlib.Core.Path.{_≡_, refl, sym, ap, ap₂, subst, _∙_}
+use Prim.Native.Nat.{ℕ, _-_, _≤_, _^_}
+use lib.ListN.{length, take, length-map}
+use lib.Seq.{take-all}
+use Rattle.words.specs.Bytes.{letter, word as wordOf}
+use Rattle.unimodular.specs.Matrix.{Matrix, times, matrixOfLetter, matrixOf}
+use Rattle.unimodular.proofs.Peeling.{size}
+use Rattle.unimodular.proofs.Bound.{prefix-bound}
+use Rattle.matrices.specs.Entries.{matrix}
+use Rattle.matrices.proofs.Forms.{product-more}
+use borrow.Author.Needs.{needs}
+use native.Mathlib.Omega.{arith}
+use Rattle.matrices.proofs.forming.product.Statement.{statement}
+use Rattle.matrices.proofs.forming.product.Tie as tie
+use Rattle.matrices.proofs.forming.product.Reads as reads
+use Rattle.matrices.proofs.forming.product.Lts as lts
+use Rattle.matrices.proofs.forming.letter_at.Reads as letter-at-reads
+use Rattle.matrices.proofs.forming.times_letter.Reads as times-letter-reads
+
+abbrev Inv-loop : tie.InvT-loop
+Inv-loop form m₀ i₀ m i = (i ≤ length form) × (matrix m ≡ matrixOf (take i (wordOf form)))
+
+abbrev μ-loop : tie.MeasureT-loop
+μ-loop form m₀ i₀ m i = length form - i
+
+-- src/forming.rt:52:5
+loop-holds : tie.Need-loop-holds Inv-loop μ-loop
+loop-holds c = (omega arith, refl)
+
+-- src/forming.rt:53:29
+letter-at-requires : tie.Need-letter-at-requires Inv-loop μ-loop
+letter-at-requires c κs = search needs
+
+-- src/forming.rt:53:9
+times-letter-requires : tie.Need-times-letter-requires Inv-loop μ-loop
+times-letter-requires c κs =
+    let l = c .before .before .loop in
+    let e = c .before .before .before .before in
+    let w = e .args .form .now in
+    subst (λ (n : Matrix). size n ≤ 2 ^ 44) (sym (l .inv .1)) (prefix-bound (wordOf w) (e .pre .0) (omega (arith, length-map w letter)) (l .i))
+
+-- src/forming.rt:54:9
+add-i : tie.Need-add-i Inv-loop μ-loop
+add-i c = search needs
+
+-- src/forming.rt:52:5
+loop-less : tie.Need-loop-less Inv-loop μ-loop
+loop-less c = search needs
+
+-- src/forming.rt:52:5
+loop-again : tie.Need-loop-again Inv-loop μ-loop
+loop-again c =
+    let l = c .before .before .before .loop in
+    let w = c .before .before .before .before .before .args .form .now in (
+      omega arith,
+      c .times-letter .ensures
+          ∙ ap₂ (λ (n : Matrix) (b : ℕ). times n (matrixOfLetter (letter b))) (l .inv .1) (c .before .letter-at .ensures)
+          ∙ product-more w (l .i) (omega arith),
+    )
+
+-- src/forming.rt:40:1
+returns : tie.Need-returns Inv-loop μ-loop
+returns c =
+    let l = c .before .loop in
+    let w = c .before .before .before .args .form .now in
+    l .inv .1 ∙ ap matrixOf (take-all (l .i) (wordOf w) (omega (arith, length-map w letter)))
+
+pub product-spec : {M : Type 1} → statement M
+product-spec =
+    tie.close
+    (tie.spec
+    Inv-loop
+    μ-loop
+    loop-holds
+    letter-at-requires
+    times-letter-requires
+    add-i
+    loop-less
+    loop-again
+    returns)

@@ -1,0 +1,102 @@
+-- The matrix is peeled into an array, and what stands there is written. Assumes nothing.
+use mathlib.Core.Path.{_≡_, refl, sym, ap, _∙_}
+use mathlib.Core.List.{List}
+use Prim.Native.Nat.{ℕ, _-_}
+use lib.ListN.{length, take, drop, length-drop}
+use lib.Seq.{take-all}
+use Rattle.words.specs.Slices.{written}
+use Rattle.words.specs.Calls.{lengthOr}
+use Rattle.matrices.specs.Peeling.{ofLength}
+use Rattle.matrices.specs.Entries.{matrix}
+use Rattle.matrices.proofs.Range.{small-of-passed, passed-in-range, passed-determinant}
+use Rattle.matrices.proofs.Writing.{turns-refused, turns-written}
+use native.Mathlib.Omega.{arith}
+use borrow.Author.Needs.{needs}
+use Rattle.matrices.proofs.matrix_to_word.Statement.{statement}
+use Rattle.matrices.proofs.matrix_to_word.Tie as tie
+use Rattle.matrices.proofs.matrix_to_word.Reads as reads
+use Rattle.matrices.proofs.matrix_to_word.Lts as lts
+use Rattle.matrices.proofs.peeling.peel_all.Reads as peel-all-reads
+use Rattle.matrices.proofs.questions.of_entries.Reads as of-entries-reads
+use Rattle.matrices.proofs.write_out.Reads as write-out-reads
+
+-- src/lib.rt:73:11
+of-entries-requires : tie.Need-of-entries-requires
+of-entries-requires c κs = search needs
+
+-- src/lib.rt:74:24
+enum-known-refusal : tie.Need-enum-known-refusal
+enum-known-refusal c = search needs
+
+-- src/lib.rt:76:17
+enum-told : tie.Need-enum-told
+enum-told c = search needs
+
+-- src/lib.rt:77:43
+slice-aggregate-peel-all : tie.Need-slice-aggregate-peel-all
+slice-aggregate-peel-all c = search needs
+
+-- src/lib.rt:77:17
+peel-all-requires : tie.Need-peel-all-requires
+peel-all-requires c κs =
+    let m = matrix (c .before .before .before .before .before .args .m) in
+    let e = sym (c .before .before .before .of-entries .ensures) ∙ c .before .enum-told .given .1 in
+    let s = small-of-passed m (passed-in-range m e) in
+    (passed-determinant m e, (omega arith, refl))
+
+-- src/lib.rt:78:23
+sub-write-out : tie.Need-sub-write-out
+sub-write-out c = search needs
+
+-- src/lib.rt:78:23
+part-write-out-start : tie.Need-part-write-out-start
+part-write-out-start c = search needs
+
+-- src/lib.rt:78:23
+part-write-out-end : tie.Need-part-write-out-end
+part-write-out-end c = search needs
+
+-- src/lib.rt:78:13
+write-out-requires : tie.Need-write-out-requires
+write-out-requires c κs = search needs
+
+-- src/lib.rt:70:1
+returns : tie.Need-returns
+returns c =
+    let a = c .before .before .before .before .before .args in
+    turns-refused (matrix (a .m)) (a .out .now) (sym (c .before .before .before .of-entries .ensures) ∙ c .before .refusal .given .1)
+
+-- src/lib.rt:70:1
+same-length : tie.Need-same-length
+same-length c = search needs
+
+-- src/lib.rt:70:1
+returns-2 : tie.Need-returns-2
+returns-2 c =
+    let a = c .before .before .before .before .before .before .before .before .before .before .before .before .before .args in
+    let p = c .before .before .before .before .before .before .before .peel-all in
+    let o = c .before .before .write-out .ensures in
+    let form = p .last .1 .0 in
+    let at = p .result in
+    let all : take (82 - at) (drop at form) ≡ drop at form = take-all (82 - at) (drop at form) (omega (arith, length-drop at form, p .kept .1 .0)) in
+    turns-written (matrix (a .m)) (a .out .now) form at (p .kept .1 .0) (p .ensures)
+    (o .0 ∙ ap (λ (s : List ℕ). lengthOr (ofLength (length s) (length (a .out .now))) (length s)) all)
+    (o .1 ∙ ap (λ (s : List ℕ). written (ofLength (length s) (length (a .out .now))) s (a .out .now)) all)
+    (sym (c .before .before .before .before .before .before .before .before .before .before .before .of-entries .ensures) ∙ c .before .before .before .before .before .before .before .before .before .enum-told .given .1)
+
+pub matrix-to-word-spec : {M : Type 1} → statement M
+matrix-to-word-spec =
+    tie.close
+    (tie.spec
+    of-entries-requires
+    enum-known-refusal
+    enum-told
+    slice-aggregate-peel-all
+    peel-all-requires
+    sub-write-out
+    part-write-out-start
+    part-write-out-end
+    write-out-requires
+    returns
+    same-length
+    returns-2)

@@ -1,0 +1,103 @@
+-- The word is reduced, and its normal form has the same matrix up to sign. Assumes nothing.
+use mathlib.Core.Path.{_≡_, refl, sym, ap, subst, _∙_}
+use Prim.Native.Nat.{_≤_}
+use lib.ListN.{length, take, length-map}
+use lib.Seq.{length-take-le}
+use Rattle.words.specs.Word.{Word, Normal, nf}
+use Rattle.words.specs.Bytes.{letter, word as wordOf}
+use Rattle.words.specs.declared.Asked.{Asked}
+use Rattle.words.proofs.NormalForm.{nf-normal, nf-length}
+use Rattle.words.proofs.Asking.{of-letters-short}
+use Rattle.words.proofs.Bytes.{word-bytes}
+use Rattle.unimodular.specs.Matrix.{Matrix, matrixOf, signed}
+use Rattle.matrices.specs.Calls.{matrixOr}
+use Rattle.matrices.specs.Forming.{ofForm}
+use Rattle.matrices.proofs.Reduction.{reduce-refused, reduce-passed, reduce-length, reduce-form, letters-refused, letters-passed, signed-nf}
+use native.Mathlib.Omega.{arith}
+use borrow.Author.Needs.{needs}
+use Rattle.matrices.proofs.word_to_matrix.Statement.{statement}
+use Rattle.matrices.proofs.word_to_matrix.Tie as tie
+use Rattle.matrices.proofs.word_to_matrix.Reads as reads
+use Rattle.matrices.proofs.word_to_matrix.Lts as lts
+use Rattle.matrices.proofs.forming.of_normal_form.Reads as of-normal-form-reads
+use Rattle.words.proofs.reduce.Reads as reduce-reads
+
+-- the length that the reduction returned, and the word that it wrote
+short : (c : tie.After-letters) → c .letters .given .0 .0 .0 ≤ length (c .before .before .before .reduce .last .1 .0)
+short c =
+    let w = c .before .before .before .before .before .before .args .word .now in
+    let r = c .before .before .before .reduce in
+    let p = reduce-passed w _ _ _ (r .ensures) refl (c .letters .given .1) in
+    omega (arith, reduce-length w _ _ _ (r .ensures) refl (c .letters .given .1), nf-length (wordOf w), length-map w letter, of-letters-short w p, r .kept .1 .0)
+
+the-form : (c : tie.After-letters) → wordOf (take (c .letters .given .0 .0 .0) (c .before .before .before .reduce .last .1 .0)) ≡ nf (wordOf (c .before .before .before .before .before .before .args .word .now))
+the-form c =
+    let w = c .before .before .before .before .before .before .args .word .now in
+    ap wordOf (reduce-form w _ _ _ (c .before .before .before .reduce .ensures) refl (c .letters .given .1)) ∙ word-bytes (nf (wordOf w))
+
+-- src/lib.rt:44:31
+slice-aggregate-reduce : tie.Need-slice-aggregate-reduce
+slice-aggregate-reduce c = search needs
+
+-- src/lib.rt:44:11
+reduce-requires : tie.Need-reduce-requires
+reduce-requires c κs = search needs
+
+-- src/lib.rt:45:26
+enum-known-refusal : tie.Need-enum-known-refusal
+enum-known-refusal c = search needs
+
+-- src/lib.rt:46:25
+enum-known-letters : tie.Need-enum-known-letters
+enum-known-letters c = search needs
+
+-- src/lib.rt:47:23
+cast-len : tie.Need-cast-len
+cast-len c = search needs
+
+-- src/lib.rt:48:37
+array-share-prefix-form : tie.Need-array-share-prefix-form
+array-share-prefix-form c = short (c .before .before)
+
+-- src/lib.rt:48:37
+slice-aggregate-of-normal-form : tie.Need-slice-aggregate-of-normal-form
+slice-aggregate-of-normal-form c =
+    sym (length-take-le (c .before .before .before .letters .given .0 .0 .0) (c .before .before .before .before .before .before .reduce .last .1 .0) (short (c .before .before .before)))
+
+-- src/lib.rt:48:13
+of-normal-form-requires : tie.Need-of-normal-form-requires
+of-normal-form-requires c κs =
+    let w = c .before .before .before .before .before .before .before .before .before .args .word .now in
+    subst Normal (sym (the-form (c .before .before .before))) (nf-normal (wordOf w))
+
+-- src/lib.rt:40:1
+returns : tie.Need-returns
+returns c =
+    let w = c .before .before .before .before .before .before .before .args .word .now in
+    let e = letters-refused w (reduce-refused w _ _ _ (c .before .before .before .before .reduce .ensures) refl (c .before .refusal .given .1)) in
+    sym (ap (λ (a : Asked). matrixOr a (signed (matrixOf (wordOf w)))) e)
+
+-- src/lib.rt:40:1
+returns-2 : tie.Need-returns-2
+returns-2 c =
+    let w = c .before .before .before .before .before .before .before .before .before .before .args .word .now in
+    let p = reduce-passed w _ _ _ (c .before .before .before .before .before .before .before .reduce .ensures) refl (c .before .before .before .before .letters .given .1) in
+    c .of-normal-form .ensures
+    ∙ ap (λ (x : Word). matrixOr (ofForm x) (signed (matrixOf x))) (the-form (c .before .before .before .before))
+    ∙ ap (λ (m : Matrix). matrixOr (ofForm (nf (wordOf w))) m) (signed-nf w)
+    ∙ ap (λ (a : Asked). matrixOr a (signed (matrixOf (wordOf w)))) (sym (letters-passed w p))
+
+pub word-to-matrix-spec : {M : Type 1} → statement M
+word-to-matrix-spec =
+    tie.close
+    (tie.spec
+    slice-aggregate-reduce
+    reduce-requires
+    enum-known-refusal
+    enum-known-letters
+    cast-len
+    array-share-prefix-form
+    slice-aggregate-of-normal-form
+    of-normal-form-requires
+    returns
+    returns-2)

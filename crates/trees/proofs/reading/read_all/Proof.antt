@@ -1,0 +1,130 @@
+-- The first i generators are read. Assumes nothing.
+use mathlib.Core.Path.{_≡_, refl, ap, _∙_}
+use mathlib.Core.List.{List}
+use Prim.Native.Nat.{ℕ, _-_, _≤_}
+use lib.ListN.{length}
+use Rattle.trees.specs.Tree.{at}
+use Rattle.trees.specs.Growing.{tables, Read}
+use Rattle.trees.proofs.Ends.{fits-same}
+use Rattle.trees.proofs.Behind.{at-same}
+use Rattle.trees.proofs.Listed.{read-begins}
+use borrow.Author.Needs.{needs}
+use native.Mathlib.Omega.{arith}
+use Rattle.trees.proofs.reading.read_all.Statement.{statement}
+use Rattle.trees.proofs.reading.read_all.Tie as tie
+
+abbrev Inv-loop : tie.InvT-loop
+Inv-loop bytes ends letters₀ rests₀ children-r₀ children-s₀ wholes₀ count₀ i₀ letters rests children-r children-s wholes count i =
+    (i ≤ length ends)
+    × (length letters ≡ length letters₀)
+    × (length rests ≡ length rests₀)
+    × (length children-r ≡ length children-r₀)
+    × (length children-s ≡ length children-s₀)
+    × (length wholes ≡ length wholes₀)
+    × Read bytes ends i count (tables letters rests children-r children-s) wholes
+
+abbrev μ-loop : tie.MeasureT-loop
+μ-loop bytes ends letters₀ rests₀ children-r₀ children-s₀ wholes₀ count₀ i₀ letters rests children-r children-s wholes count i = length ends - i
+
+make-root-requires : tie.Need-make-root-requires Inv-loop μ-loop
+make-root-requires c κs = search needs
+
+loop-holds : tie.Need-loop-holds Inv-loop μ-loop
+loop-holds c =
+    let called = c .before .before .before .before .before .before in
+    let start = called .before .before .before .before .before .before .before .before .before .before .before in
+    let a = start .args in
+    let made = called .make-root .ensures in (
+      omega arith,
+      refl,
+      refl,
+      refl,
+      refl,
+      refl,
+      read-begins
+          (a .bytes .now)
+          (a .ends .now)
+          _
+          _
+          _
+          _
+          _
+          (ap (λ (l : List ℕ). at l 0) (made .1) ∙ at-same (a .children-r .now) 0 0 (omega (arith, start .pre .room-r)))
+          (ap (λ (l : List ℕ). at l 0) (made .2) ∙ at-same (a .children-s .now) 0 0 (omega (arith, start .pre .room-s))),
+    )
+
+read-generator-requires : tie.Need-read-generator-requires Inv-loop μ-loop
+read-generator-requires c κs =
+    let test = c .before .before .before .before .before in
+    let l = test .before .loop .inv in
+    let called = test .before .before .before .before .before .before .before .before in
+    let k = called .make-root .kept in
+    let start = called .before .before .before .before .before .before .before .before .before .before .before in
+    (test .loop-test .taken, (fits-same (start .pre) (l .1) (l .2 ∙ k .0) (l .3 ∙ k .1 .0) (l .4 ∙ k .1 .1 .0) (l .5), l .6))
+
+add-i : tie.Need-add-i Inv-loop μ-loop
+add-i c =
+    let test = c .before .before .before .before .before .before .before .before .before .before .before .before .before .before .before .before in
+    let called = test .before .before .before .before .before .before .before .before in
+    let start = called .before .before .before .before .before .before .before .before .before .before .before in
+    omega (arith, test .loop-test .taken, start .good .1 .0)
+
+loop-less : tie.Need-loop-less Inv-loop μ-loop
+loop-less c = search needs
+
+loop-again : tie.Need-loop-again Inv-loop μ-loop
+loop-again c =
+    let called = c .before .before .before .before .before .before .before .before .before .before in
+    let test = called .before .before .before .before .before .before in
+    let l = test .before .loop .inv in
+    let k = called .read-generator .kept .1 .1 .1 in (
+      omega (arith, test .loop-test .taken),
+      k .0 ∙ l .1,
+      k .1 .0 ∙ l .2,
+      k .1 .1 .0 ∙ l .3,
+      k .1 .1 .1 .0 ∙ l .4,
+      k .1 .1 .1 .1 .0 ∙ l .5,
+      called .read-generator .ensures,
+    )
+
+same-length : tie.Need-same-length Inv-loop μ-loop
+same-length c = search needs
+
+same-length-2 : tie.Need-same-length-2 Inv-loop μ-loop
+same-length-2 c = search needs
+
+same-length-3 : tie.Need-same-length-3 Inv-loop μ-loop
+same-length-3 c = search needs
+
+same-length-4 : tie.Need-same-length-4 Inv-loop μ-loop
+same-length-4 c = search needs
+
+same-length-5 : tie.Need-same-length-5 Inv-loop μ-loop
+same-length-5 c = search needs
+
+returns : tie.Need-returns Inv-loop μ-loop
+returns c =
+    let l = c .before .loop in
+    let called = c .before .before .before .before .before .before .before .before in
+    let start = called .before .before .before .before .before .before .before .before .before .before .before in
+    let all : l .i ≡ length (start .args .ends .now) = omega (arith, l .inv .0, c .loop-test .left) in
+    rw (← all) (l .inv .6)
+
+pub read-all-spec : {M : Type 1} → statement M
+read-all-spec =
+    tie.close
+    (tie.spec
+    Inv-loop
+    μ-loop
+    make-root-requires
+    loop-holds
+    read-generator-requires
+    add-i
+    loop-less
+    loop-again
+    same-length
+    same-length-2
+    same-length-3
+    same-length-4
+    same-length-5
+    returns)

@@ -1,0 +1,90 @@
+// Whether the inputs fit: a linear test, total for slices of any length and content.
+ghost use mathlib.Core.Path.{_≡_};
+ghost use Prim.Native.Nat.{_≤_, _<_};
+ghost use lib.ListN.{length};
+ghost use Rattle.trees.specs.Tree.{at};
+ghost use Rattle.trees.specs.Building.{Fits};
+ghost use Rattle.trees.specs.Ends.{endBefore, EndFits, EndsFit, Tells};
+
+// The number at a place.
+pub(crate) fn entry(numbers: &[u16], i: usize) -> usize
+    requires { ⌜ i < length (now numbers) ⌝ }
+    ensures { λ r. ⌜ r ≡ at (now (numbers .entry)) i ⌝ }
+{
+    numbers[i] as usize
+}
+
+// The end before generator i: 0 for the first.
+pub(crate) fn end_before(ends: &[u16], i: usize) -> usize
+    requires { ⌜ i ≤ length (now ends) ⌝ }
+    ensures { λ r. ⌜ r ≡ endBefore (now (ends .entry)) i ⌝ }
+{
+    if i == 0 {
+        return 0;
+    }
+    entry(ends, i - 1)
+}
+
+fn end_fits(ends: &[u16], i: usize, limit: usize) -> bool
+    requires { ⌜ i < length (now ends) ⌝ }
+    ensures { λ r. ⌜ Tells (EndFits (now (ends .entry)) limit i) r ⌝ }
+{
+    let end = entry(ends, i);
+    if limit < end {
+        return false;
+    }
+    let before = end_before(ends, i);
+    if end < before {
+        return false;
+    }
+    true
+}
+
+fn ends_fit(ends: &[u16], limit: usize) -> bool
+    ensures { λ r. ⌜ Tells (EndsFit (now (ends .entry)) limit) r ⌝ }
+{
+    let mut i = 0;
+    while i < ends.len() {
+        if end_fits(ends, i, limit) {
+            i += 1;
+        } else {
+            return false;
+        }
+    }
+    true
+}
+
+pub(crate) fn fits(
+    bytes: &[u8],
+    ends: &[u16],
+    letters: &[u8],
+    rests: &[u16],
+    children_r: &[u16],
+    children_s: &[u16],
+    wholes: &[u16],
+) -> bool
+    ensures { λ r. ⌜ Tells
+        (Fits (now (bytes .entry)) (now (ends .entry)) (now (letters .entry)) (now (rests .entry))
+        (now («children_r» .entry)) (now («children_s» .entry)) (now (wholes .entry)))
+        r ⌝ }
+{
+    if 65535 <= bytes.len() {
+        return false;
+    }
+    if letters.len() <= bytes.len() {
+        return false;
+    }
+    if rests.len() <= bytes.len() {
+        return false;
+    }
+    if children_r.len() <= bytes.len() {
+        return false;
+    }
+    if children_s.len() <= bytes.len() {
+        return false;
+    }
+    if wholes.len() != ends.len() {
+        return false;
+    }
+    ends_fit(ends, bytes.len())
+}
