@@ -1,4 +1,5 @@
 // The bounded verdict: is the target a product of at most n generators?
+mod path;
 mod zeroing;
 
 use words::Factors;

@@ -1,0 +1,78 @@
+-- Before turn i row 0 and i rows behind it are made. Assumes nothing.
+use mathlib.Core.Path.{_≡_, _∙_}
+use Prim.Native.Nat.{_-_, _≤_}
+use lib.ListN.{length}
+use Rattle.engine.proofs.Filling.{Filling, path-rows, filling-begins, filling-more, filling-rest, fits-r, fits-s}
+use Rattle.engine.proofs.Parts.{row-inside}
+use borrow.Author.Needs.{needs}
+use native.Mathlib.Omega.{arith}
+use Rattle.engine.proofs.path.path.Statement.{statement}
+use Rattle.engine.proofs.path.path.Tie as tie
+
+abbrev Inv-loop : tie.InvT-loop
+Inv-loop target count children-r children-s n table rows₀ i₀ rows i =
+    (i ≤ length target) × Filling count n children-r children-s target table rows₀ rows i
+
+abbrev μ-loop : tie.MeasureT-loop
+μ-loop target count children-r children-s n table rows₀ i₀ rows i = length target - i
+
+copy-row-requires : tie.Need-copy-row-requires Inv-loop μ-loop
+copy-row-requires c κs =
+    let p = c .before .before .before .before .before .before .pre .0 in
+    (omega (arith, row-inside 0 _ (p .some), p .table-room), omega (arith, p .rows-room))
+
+loop-holds : tie.Need-loop-holds Inv-loop μ-loop
+loop-holds c =
+    let fits = c .before .before .before .before .before .before .before .before .before .pre .0 in
+    (omega arith, filling-begins fits (c .before .before .copy-row .ensures))
+
+shared-slice-read-read-letter : tie.Need-shared-slice-read-read-letter Inv-loop μ-loop
+shared-slice-read-read-letter c = search needs
+
+read-letter-requires : tie.Need-read-letter-requires Inv-loop μ-loop
+read-letter-requires c κs =
+    let p = c .before .before .before .before .before .before .before .before .before .before .before .before .before .pre in
+    let r = c .before .before .before .before .before .before .copy-row .ensures in
+    let f = c .before .before .before .loop .inv .1 in
+    let here = c .before .before .loop-test .taken in
+    (fits-r (p .0) r f (p .1) here, fits-s (p .0) r f (p .1) here)
+
+add-i : tie.Need-add-i Inv-loop μ-loop
+add-i c = search needs
+
+loop-less : tie.Need-loop-less Inv-loop μ-loop
+loop-less c = search needs
+
+loop-again : tie.Need-loop-again Inv-loop μ-loop
+loop-again c =
+    let fits = c .before .before .before .before .before .before .before .before .before .before .before .before .before .before .before .before .pre .0 in
+    (omega arith, filling-more fits (c .before .before .before .before .before .before .loop .inv .1) (c .before .before .read-letter .ensures))
+
+same-length : tie.Need-same-length Inv-loop μ-loop
+same-length c = c .before .loop .inv .1 .long ∙ c .before .before .before .before .copy-row .ensures .long
+
+returns : tie.Need-returns Inv-loop μ-loop
+returns c =
+    let a = c .before .before .before .before .before .before .before .before .before .before .before .args in
+    let fits = c .before .before .before .before .before .before .before .before .before .before .before .pre .0 in
+    let l = c .before .loop in
+    let all : l .i ≡ length (a .target .now) = omega arith in
+    let path = path-rows (l .inv .1) in
+    let rest = filling-rest fits (c .before .before .before .before .copy-row .ensures) (l .inv .1) in
+    rw (← all) (path, rest)
+
+pub path-spec : {M : Type 1} → statement M
+path-spec =
+    tie.close
+    (tie.spec
+    Inv-loop
+    μ-loop
+    copy-row-requires
+    loop-holds
+    shared-slice-read-read-letter
+    read-letter-requires
+    add-i
+    loop-less
+    loop-again
+    same-length
+    returns)

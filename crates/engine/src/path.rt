@@ -1,0 +1,173 @@
+// The rows of a target: row i has, for each node q, the least number of factors that make the target's first i letters and then q's word,
+// or n + 1. Each row is made of the one before it and the finished table.
+ghost use mathlib.Core.Path.{_≡_};
+ghost use Prim.Native.Nat.{ℕ, suc, min, _+_, _*_, _≤_, _<_};
+ghost use lib.Dec.{eqb};
+ghost use lib.ListN.{length, drop};
+ghost use Rattle.words.specs.Bytes.{pick};
+ghost use Rattle.trees.specs.Tree.{at};
+ghost use Rattle.tables.specs.Rules.{place};
+ghost use Rattle.engine.specs.Path.{PathRows, PathFits};
+ghost use Rattle.engine.specs.Rounds.{Rewritten, Lowered, AtMost, Round, readAt, RoundFits, RowFits, NextRow};
+
+// The most nodes that a tree of generators of 320 letters together has.
+const NODES: usize = 321;
+
+fn wide(x: u16) -> usize
+    ensures { λ r. ⌜ r ≡ x ⌝ }
+{
+    x as usize
+}
+
+fn least(a: u16, b: u16) -> u16
+    ensures { λ r. ⌜ r ≡ min a b ⌝ }
+{
+    if b < a {
+        return b;
+    }
+    a
+}
+
+// The row's entry at v's child, or n + 1 where v has none.
+fn read_entry(row: &[u16], children: &[u16], n: u16, v: usize) -> u16
+    requires { ⌜ n ≤ 1000 ⌝ }
+    requires { ⌜ v < length (now children) ⌝ }
+    requires { ⌜ at (now children) v < length (now row) ⌝ }
+    ensures { λ r. ⌜ r ≡ readAt n (now (children .entry)) (at (now (row .entry))) v ⌝ }
+{
+    let child = children[v];
+    if child == 0 {
+        return n + 1;
+    }
+    row[wide(child)]
+}
+
+// Reads a letter: what the next row begins with, at each node.
+fn read_row(row: &[u16], children: &[u16], n: u16, first: &mut [u16])
+    requires { ⌜ n ≤ 1000 ⌝ }
+    requires { ⌜ length (now row) ≤ length (now children) ⌝ }
+    requires { ⌜ length (now row) ≤ length (now first) ⌝ }
+    requires { ⌜ ((p : ℕ) → p < length (now row) → at (now children) p < length (now row)) ⌝ }
+    ensures { λ _. ⌜ Rewritten (readAt n (now (children .entry)) (at (now (row .entry)))) (now (first .entry)) (now (first .exit)) (length (now (row .entry))) ⌝ }
+{
+    let mut v = 0;
+    while v < row.len() {
+        first[v] = read_entry(row, children, n, v);
+        v += 1;
+    }
+}
+
+// Copies the first `count` entries.
+fn copy_row(from: &[u16], count: usize, to: &mut [u16])
+    requires { ⌜ count ≤ length (now from) ⌝ }
+    requires { ⌜ count ≤ length (now to) ⌝ }
+    ensures { λ _. ⌜ Rewritten (at (now (from .entry))) (now (to .entry)) (now (to .exit)) count ⌝ }
+{
+    let mut q = 0;
+    while q < count {
+        to[q] = from[q];
+        q += 1;
+    }
+}
+
+// Lowers each entry of the row to k more than the one that stands there in `from`. The stores are not under the test: so the loop becomes
+// vector code.
+fn lower_row(row: &mut [u16], k: u16, from: &[u16])
+    requires { ⌜ k ≤ 1001 ⌝ }
+    requires { ⌜ length (now row) ≤ length (now from) ⌝ }
+    requires { ⌜ AtMost 1001 (now from) (length (now row)) ⌝ }
+    ensures { λ _. ⌜ Lowered (λ q. k + at (now (from .entry)) q) (now (row .entry)) (now (row .exit)) ⌝ }
+{
+    let mut q = 0;
+    while q < row.len() {
+        row[q] = least(row[q], k + from[q]);
+        q += 1;
+    }
+}
+
+// Rule F from v: what is read at v, and the table's entry from there. Where nothing is read at v no sum is below n + 1.
+fn lower_from(first: &[u16], n: u16, v: usize, table: &[u16], row: &mut [u16])
+    requires { ⌜ RoundFits n (now first) (now table) (length (now row)) ⌝ }
+    requires { ⌜ v < length (now row) ⌝ }
+    requires { ⌜ AtMost (n + 1) (now row) (length (now row)) ⌝ }
+    ensures { λ _. ⌜ Lowered (λ q. at (now (first .entry)) v + at (now (table .entry)) (place (length (now (row .entry))) v q)) (now (row .entry)) (now (row .exit)) ⌝ }
+{
+    let k = first[v];
+    if n < k {
+        return;
+    }
+    let start = v * row.len();
+    let end = start + row.len();
+    lower_row(row, k, &table[start..end]);
+}
+
+// One round of rule F over what is read.
+fn round(first: &[u16], n: u16, table: &[u16], row: &mut [u16])
+    requires { ⌜ RoundFits n (now first) (now table) (length (now row)) ⌝ }
+    ensures { λ _. ⌜ Round (now (first .entry)) (now (table .entry)) (length (now (row .entry))) (now (row .exit)) ⌝ }
+{
+    copy_row(first, row.len(), row);
+    let mut v = 0;
+    while v < row.len() {
+        lower_from(first, n, v, table, row);
+        v += 1;
+    }
+}
+
+// Makes row i + 1 of row i, with each node's child by the letter that is read.
+fn next_row(children: &[u16], count: usize, n: u16, table: &[u16], rows: &mut [u16], i: usize)
+    requires { ⌜ RowFits count n (now children) (now table) i (now rows) ⌝ }
+    ensures { λ _. ⌜ NextRow count n (now (children .entry)) (now (table .entry)) i (now (rows .entry)) (now (rows .exit)) ⌝ }
+{
+    let mut first = [0u16; NODES];
+    let start = i * count;
+    let middle = start + count;
+    let end = middle + count;
+    read_row(&rows[start..middle], children, n, &mut first);
+    round(&first, n, table, &mut rows[middle..end]);
+}
+
+// Makes row i + 1 by letter i of the target: 82 is R, and any other byte is taken for S.
+fn read_letter(
+    letter: u8,
+    children_r: &[u16],
+    children_s: &[u16],
+    count: usize,
+    n: u16,
+    table: &[u16],
+    rows: &mut [u16],
+    i: usize,
+)
+    requires { ⌜ RowFits count n (now «children_r») (now table) i (now rows) ⌝ }
+    requires { ⌜ RowFits count n (now «children_s») (now table) i (now rows) ⌝ }
+    ensures { λ _. ⌜ NextRow count n (pick (eqb letter 82) (now («children_r» .entry)) (now («children_s» .entry))) (now (table .entry)) i (now (rows .entry)) (now (rows .exit)) ⌝ }
+{
+    if letter == 82 {
+        next_row(children_r, count, n, table, rows, i);
+        return;
+    }
+    next_row(children_s, count, n, table, rows, i);
+}
+
+// Fills the rows of the target, from the table's row of the empty word on.
+pub(crate) fn path(
+    target: &[u8],
+    count: usize,
+    children_r: &[u16],
+    children_s: &[u16],
+    n: u16,
+    table: &[u16],
+    rows: &mut [u16],
+)
+    requires { ⌜ PathFits count n (now «children_r») (now «children_s») (now target) (now table) (now rows) ⌝ }
+    requires { ⌜ count ≤ 321 ⌝ }
+    ensures { λ _. ⌜ PathRows count n (now («children_r» .entry)) (now («children_s» .entry)) (now (target .entry)) (now (table .entry)) (now (rows .exit)) (length (now (target .entry))) ⌝ }
+    ensures { λ _. ⌜ drop (suc (length (now (target .entry))) * count) (now (rows .exit)) ≡ drop (suc (length (now (target .entry))) * count) (now (rows .entry)) ⌝ }
+{
+    copy_row(table, count, rows);
+    let mut i = 0;
+    while i < target.len() {
+        read_letter(target[i], children_r, children_s, count, n, table, rows, i);
+        i += 1;
+    }
+}
