@@ -1,2 +1,5 @@
 pub mod Rules
 pub mod Filling
+pub mod Nodes
+pub mod Relaxing
+pub mod Levelling

@@ -1,1 +1,54 @@
 // The table of pairs of states: for each pair the least number of factors that leads from the one to the other.
+mod fitting;
+mod nodes;
+mod passes;
+mod relaxing;
+mod rules;
+
+use crate::fitting::fits;
+use crate::fitting::linked;
+use crate::passes::fill_levels;
+ghost use Rattle.tables.specs.Filling.{Fills};
+
+// Fills the first count * count entries of the table for the tree of `count` nodes in the five slices, up to the bound n. Where the
+// inputs do not fit nothing changes, and the answer is false. The promise is about trees: slices whose children disagree with their
+// letters and rests are none, and nothing is done for them.
+pub fn fill(
+    count: usize,
+    letters: &[u8],
+    rests: &[u16],
+    children_r: &[u16],
+    children_s: &[u16],
+    wholes: &[u16],
+    n: u16,
+    table: &mut [u16],
+) -> bool
+    ensures { λ r. ⌜ Fills count (now (letters .entry)) (now (rests .entry)) (now («children_r» .entry)) (now («children_s» .entry)) (now (wholes .entry)) n (now (table .entry)) r (now (table .exit)) ⌝ }
+{
+    if fits(
+        count,
+        letters,
+        rests,
+        children_r,
+        children_s,
+        wholes,
+        n,
+        table,
+    ) {
+        if linked(count, letters, rests, children_r, children_s) {
+            fill_levels(
+                &mut table[..count * count],
+                count,
+                letters,
+                rests,
+                children_r,
+                children_s,
+                wholes,
+                n,
+            );
+            return true;
+        }
+        return true;
+    }
+    false
+}

@@ -1,0 +1,54 @@
+-- Nodes that are found by following the slices, and what is relaxed at them. Assumes nothing.
+use mathlib.Core.Path.{_≡_, sym, ap, subst, _∙_}
+use mathlib.Core.List.{List}
+use Prim.Native.Nat.{ℕ, _<_}
+use native.Mathlib.Omega.{arith}
+use Rattle.trees.specs.Tree.{at}
+use Rattle.levels.specs.Levels.{Uses, Relaxed}
+use Rattle.levels.proofs.Relaxing.{relaxed-same}
+use Rattle.tables.specs.Nodes.{Finds, Noted, Front, Followed, Children}
+use Rattle.tables.specs.Relaxing.{Inside, Joins, Through}
+
+module _ {w : ℕ} {letters rests : List ℕ} where
+  -- where the children agree with the letters and rests, the child that is noted is the node with the letter in front
+  pub child-front : {letter p r : ℕ} {children : List ℕ} → Children w letters rests letter children
+      → Finds w (Noted children w p) r → Finds w (λ a. Front w letters rests letter a p) r
+  child-front {letter} {p} {r} {children} linked finds =
+      record {
+        found = λ inside.
+            let (below, positive, noted) = finds .found inside in
+            let (spelled, behind) = linked .agree p below .child (omega (arith, noted)) in
+            (positive, inside, ap (at letters) (sym noted) ∙ spelled, ap (at rests) (sym noted) ∙ behind);
+        only = λ a inside front.
+            let (positive, below, spelled, behind) = front in
+            let p-inside : p < w = omega (arith, linked .followed .rest-earlier a positive below, behind) in
+            finds .only a inside (p-inside, positive, ap (at children) (sym behind) ∙ linked .agree a below .rest positive spelled);
+      }
+
+  -- a letter stands in front of a node only
+  pub front-node : {letter a p : ℕ} {children : List ℕ} → Followed w letters rests children → Front w letters rests letter a p → p < w
+  front-node {a = a} followed (positive, inside, spelled, behind) = omega (arith, followed .rest-earlier a positive inside)
+
+module _ {w : ℕ} where
+  -- what is found from what was found
+  pub finds-through : {P : ℕ → Type 0} {Q : ℕ → ℕ → Type 0} {m r : ℕ} → ((a : ℕ) → Q m a → m < w) → Finds w P m → Finds w (Q m) r → Finds w (Through w P Q) r
+  finds-through {P} {Q} {m} {r} node first second =
+      record {
+        found = λ inside. let q = second .found inside in let below = node r q in (m, below, first .found below, q);
+        only = λ a inside way. second .only a inside (subst (λ (n : ℕ). Q n a) (first .only (way .0) (way .1) (way .2)) (way .3));
+      }
+
+  -- what was relaxed at the two nodes that are found
+  pub joined : {P Q : ℕ → Type 0} {Y : ℕ → ℕ → Uses} {a b k : ℕ} {t t′ : List ℕ} → Finds w P a → Finds w Q b
+      → Relaxed k (Inside w a b Y) t t′ → Relaxed k (Joins w P Q Y) t t′
+  joined {P} {Q} {Y} {a} {b} left right relaxed =
+      relaxed-same
+      (λ q c y within. (a, b, y .0, y .1, left .found (y .0), right .found (y .1), y .2))
+      (λ q c j within.
+      let row : j .0 ≡ a = left .only (j .0) (j .2) (j .4) in
+      let column : j .1 ≡ b = right .only (j .1) (j .3) (j .5) in (
+        subst (λ (x : ℕ). x < w) row (j .2),
+        subst (λ (x : ℕ). x < w) column (j .3),
+        subst (λ (x : ℕ). Y x b q c) row (subst (λ (x : ℕ). Y (j .0) x q c) column (j .6)),
+      ))
+      relaxed

@@ -1,0 +1,14 @@
+pub mod Places
+pub mod Leading
+pub mod TreeLaws
+mod Telling
+mod Finding
+mod Steps
+mod Forward
+mod Pairs
+mod Visiting
+mod Levelled
+mod Sound
+mod Complete
+mod Exact
+mod Filled

@@ -1,0 +1,92 @@
+-- The pass has visited the places before the pair. Assumes nothing.
+use mathlib.Core.Path.{_≡_, sym, subst}
+use Prim.Native.Nat.{ℕ, _*_, _-_, _≤_, _<_}
+use Rattle.tables.specs.Rules.{place, Rule}
+use Rattle.tables.specs.Levelling.{Passes, begin, visit}
+use Rattle.tables.proofs.Places.{place-inside, place-past}
+use Rattle.tables.proofs.Visiting.{passes-ready, passes-length}
+use native.Mathlib.Omega.{arith}
+use Rattle.tables.proofs.passes.pass.Statement.{statement}
+use Rattle.tables.proofs.passes.pass.Tie as tie
+
+abbrev Inv-loop : tie.InvT-loop
+Inv-loop table₀ width letters rests children-r children-s k pair₀ table pair =
+    (pair .column < width) × (place width (pair .row) (pair .column) ≤ width * width)
+    × Passes (Rule width letters rests) k (place width (pair .row) (pair .column)) table₀ table
+
+abbrev μ-loop : tie.MeasureT-loop
+μ-loop table₀ width letters rests children-r children-s k pair₀ table pair = width * width - place width (pair .row) (pair .column)
+
+loop-holds : tie.Need-loop-holds Inv-loop μ-loop
+loop-holds c =
+    let start = c .before .before .before .before .before in
+    let a = start .args in
+    let first : 0 ≡ place (a .width) 0 0 = omega arith in
+    let rules = Rule (a .width) (a .letters .now) (a .rests .now) in
+    (start .pre .1 .1, omega arith, subst (λ (z : ℕ). Passes rules (a .k) z (a .table .now) (a .table .now)) first begin)
+
+visit-requires : tie.Need-visit-requires Inv-loop μ-loop
+visit-requires c κs =
+    let at-loop = c .before .before .before in
+    let start = at-loop .before .before .before .before .before .before in
+    let p = start .pre in (passes-ready (p .0) (at-loop .loop .inv .2), (p .1 .0, (c .before .if1 .taken, at-loop .loop .inv .0)))
+
+next-pair-requires : tie.Need-next-pair-requires Inv-loop μ-loop
+next-pair-requires c κs =
+    let at-if1 = c .before .before .before .before in
+    let at-loop = at-if1 .before .before in
+    let start = at-loop .before .before .before .before .before .before in
+    (start .pre .0 .few, (at-if1 .if1 .taken, at-loop .loop .inv .0))
+
+loop-less : tie.Need-loop-less Inv-loop μ-loop
+loop-less c =
+    let at-if1 = c .before .before .before .before .before in
+    let at-loop = at-if1 .before .before in
+    let start = at-loop .before .before .before .before .before .before in
+    let w = start .args .width in
+    let l = at-loop .loop in
+    let inside : place w (l .pair .row) (l .pair .column) < w * w = place-inside (at-if1 .if1 .taken) (l .inv .0) in
+    omega (arith, c .next-pair .ensures .0)
+
+loop-again : tie.Need-loop-again Inv-loop μ-loop
+loop-again c =
+    let at-visit = c .before .before .before in
+    let at-if1 = at-visit .before .before in
+    let at-loop = at-if1 .before .before in
+    let start = at-loop .before .before .before .before .before .before in
+    let a = start .args in
+    let l = at-loop .loop in
+    let rules = Rule (a .width) (a .letters .now) (a .rests .now) in
+    let inside : place (a .width) (l .pair .row) (l .pair .column) < a .width * a .width = place-inside (at-if1 .if1 .taken) (l .inv .0) in (
+      c .next-pair .ensures .1,
+      omega (arith, c .next-pair .ensures .0),
+      subst (λ (z : ℕ). Passes rules (a .k) z (a .table .now) (at-visit .visit .last .0)) (sym (c .next-pair .ensures .0))
+          (visit (l .inv .2) (at-visit .visit .ensures)),
+    )
+
+same-length : tie.Need-same-length Inv-loop μ-loop
+same-length c = passes-length (c .before .before .loop .inv .2)
+
+returns : tie.Need-returns Inv-loop μ-loop
+returns c =
+    let at-loop = c .before .before in
+    let start = at-loop .before .before .before .before .before .before in
+    let a = start .args in
+    let l = at-loop .loop in
+    let past : a .width * a .width ≤ place (a .width) (l .pair .row) (l .pair .column) = place-past (l .pair .column) (c .if1 .left) in
+    let end : place (a .width) (l .pair .row) (l .pair .column) ≡ a .width * a .width = omega (arith, l .inv .1) in
+    subst (λ (z : ℕ). Passes (Rule (a .width) (a .letters .now) (a .rests .now)) (a .k) z (a .table .now) (l .table)) end (l .inv .2)
+
+pub pass-spec : {M : Type 1} → statement M
+pass-spec =
+    tie.close
+    (tie.spec
+    Inv-loop
+    μ-loop
+    loop-holds
+    visit-requires
+    next-pair-requires
+    loop-less
+    loop-again
+    same-length
+    returns)

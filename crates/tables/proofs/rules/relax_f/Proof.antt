@@ -1,0 +1,31 @@
+-- First the row, then the column. Assumes nothing.
+use Rattle.levels.proofs.Relaxing.{relaxed-then, lowers-length}
+use mathlib.Core.Path.{_∙_}
+use Rattle.tables.proofs.Steps.{ready-relaxed}
+use borrow.Author.Needs.{needs}
+use Rattle.tables.proofs.rules.relax_f.Statement.{statement}
+use Rattle.tables.proofs.rules.relax_f.Tie as tie
+
+relax-row-requires : tie.Need-relax-row-requires
+relax-row-requires c κs = search needs
+
+relax-column-requires : tie.Need-relax-column-requires
+relax-column-requires c κs =
+    let at-relax-row = c .before .before .before in
+    let start = at-relax-row .before .before .before in
+    let p = start .pre in (ready-relaxed (p .0) (at-relax-row .relax-row .ensures), p .1)
+
+same-length : tie.Need-same-length
+same-length c =
+    let at-relax-column = c .before .before in
+    let at-relax-row = at-relax-column .before .before .before .before in
+    lowers-length (at-relax-column .relax-column .ensures .lowers) ∙ lowers-length (at-relax-row .relax-row .ensures .lowers)
+
+returns : tie.Need-returns
+returns c =
+    let at-relax-column = c .before .before in
+    let at-relax-row = at-relax-column .before .before .before .before in
+    relaxed-then (at-relax-row .relax-row .ensures) (at-relax-column .relax-column .ensures)
+
+pub relax-f-spec : {M : Type 1} → statement M
+relax-f-spec = tie.close (tie.spec relax-row-requires relax-column-requires same-length returns)

@@ -1,0 +1,68 @@
+-- The child of x by R, with what is left of y without R and with the child of y by R. Assumes nothing.
+use Rattle.levels.proofs.Relaxing.{relaxed-then, lowers-length}
+use mathlib.Core.Path.{_∙_}
+use Rattle.tables.specs.Relaxing.{One}
+use Rattle.tables.proofs.Finding.{child-front, joined}
+use Rattle.tables.proofs.Steps.{ready-relaxed}
+use Rattle.tables.proofs.rules.relax_r.Statement.{statement}
+use Rattle.tables.proofs.rules.relax_r.Tie as tie
+
+child-requires : tie.Need-child-requires
+child-requires c κs =
+    let start = c .before .before .before .before in
+    start .pre .1 .followed .room-children
+
+tail-requires : tie.Need-tail-requires
+tail-requires c κs =
+    let start = c .before .before .before .before .before .before in
+    let linked = start .pre .1 in (linked .followed .room-letters, linked .followed .room-rests)
+
+relax-at-requires : tie.Need-relax-at-requires
+relax-at-requires c κs =
+    let start = c .before .before .before .before .before .before .before in
+    start .pre .0
+
+child-requires-2 : tie.Need-child-requires-2
+child-requires-2 c κs =
+    let start = c .before .before .before .before .before .before .before .before .before .before .before in
+    start .pre .1 .followed .room-children
+
+relax-at-requires-2 : tie.Need-relax-at-requires-2
+relax-at-requires-2 c κs =
+    let at-relax-at = c .before .before .before .before in
+    let start = at-relax-at .before .before .before .before .before .before .before .before in
+    ready-relaxed (start .pre .0) (at-relax-at .relax-at .ensures)
+
+same-length : tie.Need-same-length
+same-length c =
+    let at-relax-at2 = c .before .before in
+    let at-relax-at = at-relax-at2 .before .before .before .before .before in
+    lowers-length (at-relax-at2 .relax-at2 .ensures .lowers) ∙ lowers-length (at-relax-at .relax-at .ensures .lowers)
+
+returns : tie.Need-returns
+returns c =
+    let at-relax-at2 = c .before .before in
+    let at-child2 = at-relax-at2 .before in
+    let at-relax-at = at-child2 .before .before .before .before in
+    let at-tail = at-relax-at .before in
+    let at-child = at-tail .before .before in
+    let start = at-child .before .before .before .before .before in
+    let w = start .args .width in
+    let linked = start .pre .1 in
+    let front = child-front linked (at-child .child .ensures) in
+    let front-y = child-front linked (at-child2 .child2 .ensures) in
+    relaxed-then
+    (joined {Y = One w} front (at-tail .tail .ensures) (at-relax-at .relax-at .ensures))
+    (joined {Y = One w} front front-y (at-relax-at2 .relax-at2 .ensures))
+
+pub relax-r-spec : {M : Type 1} → statement M
+relax-r-spec =
+    tie.close
+    (tie.spec
+    child-requires
+    tail-requires
+    relax-at-requires
+    child-requires-2
+    relax-at-requires-2
+    same-length
+    returns)

@@ -1,0 +1,101 @@
+-- The child of x by S and its child, what is left of y without S and without two, and the child of y by S. Assumes nothing.
+use mathlib.Core.Path.{_∙_}
+use Rattle.levels.proofs.Relaxing.{relaxed-then, lowers-length}
+use Rattle.tables.specs.Nodes.{Front}
+use Rattle.tables.specs.Relaxing.{One}
+use Rattle.tables.proofs.Finding.{child-front, front-node, finds-through, joined}
+use Rattle.tables.proofs.Steps.{ready-relaxed}
+use Rattle.tables.proofs.rules.relax_s.Statement.{statement}
+use Rattle.tables.proofs.rules.relax_s.Tie as tie
+
+child-requires : tie.Need-child-requires
+child-requires c κs =
+    let start = c .before .before .before .before in
+    start .pre .1 .followed .room-children
+
+tail-requires : tie.Need-tail-requires
+tail-requires c κs =
+    let start = c .before .before .before .before .before in
+    let linked = start .pre .1 in (linked .followed .room-letters, linked .followed .room-rests)
+
+child-requires-2 : tie.Need-child-requires-2
+child-requires-2 c κs =
+    let start = c .before .before .before .before .before .before .before in
+    start .pre .1 .followed .room-children
+
+relax-at-requires : tie.Need-relax-at-requires
+relax-at-requires c κs =
+    let start = c .before .before .before .before .before .before .before .before in
+    start .pre .0
+
+tail-requires-2 : tie.Need-tail-requires-2
+tail-requires-2 c κs =
+    let start = c .before .before .before .before .before .before .before .before .before .before .before .before in
+    let linked = start .pre .1 in (linked .followed .room-letters, linked .followed .room-rests)
+
+relax-at-requires-2 : tie.Need-relax-at-requires-2
+relax-at-requires-2 c κs =
+    let at-relax-at = c .before .before .before .before in
+    let start = at-relax-at .before .before .before .before .before .before .before .before .before in
+    ready-relaxed (start .pre .0) (at-relax-at .relax-at .ensures)
+
+child-requires-3 : tie.Need-child-requires-3
+child-requires-3 c κs =
+    let start = c .before .before .before .before .before .before .before .before .before .before .before .before .before .before .before .before .before in
+    start .pre .1 .followed .room-children
+
+relax-at-requires-3 : tie.Need-relax-at-requires-3
+relax-at-requires-3 c κs =
+    let at-relax-at2 = c .before .before .before .before in
+    let at-relax-at = at-relax-at2 .before .before .before .before .before in
+    let start = at-relax-at .before .before .before .before .before .before .before .before .before in
+    ready-relaxed (ready-relaxed (start .pre .0) (at-relax-at .relax-at .ensures)) (at-relax-at2 .relax-at2 .ensures)
+
+same-length : tie.Need-same-length
+same-length c =
+    let at-relax-at3 = c .before .before in
+    let at-relax-at2 = at-relax-at3 .before .before .before .before .before in
+    let at-relax-at = at-relax-at2 .before .before .before .before .before in
+    lowers-length (at-relax-at3 .relax-at3 .ensures .lowers) ∙ lowers-length (at-relax-at2 .relax-at2 .ensures .lowers)
+    ∙ lowers-length (at-relax-at .relax-at .ensures .lowers)
+
+returns : tie.Need-returns
+returns c =
+    let at-relax-at3 = c .before .before in
+    let at-child3 = at-relax-at3 .before in
+    let at-relax-at2 = at-child3 .before .before .before .before in
+    let at-tail2 = at-relax-at2 .before in
+    let at-relax-at = at-tail2 .before .before .before .before in
+    let at-child2 = at-relax-at .before in
+    let at-tail = at-child2 .before .before in
+    let at-child = at-tail .before in
+    let start = at-child .before .before .before .before .before in
+    let w = start .args .width in
+    let letters = start .args .letters .now in
+    let rests = start .args .rests .now in
+    let linked = start .pre .1 in
+    let front = child-front linked (at-child .child .ensures) in
+    let front-twice =
+    finds-through {Q = λ m z. Front w letters rests 83 z m} (λ z fronts. front-node (linked .followed) fronts) front
+    (child-front linked (at-child2 .child2 .ensures)) in
+    let rest = at-tail .tail .ensures in
+    let rest-twice = finds-through {Q = λ m z. Front w letters rests 83 m z} (λ z fronts. fronts .1) rest (at-tail2 .tail2 .ensures) in
+    let front-y = child-front linked (at-child3 .child3 .ensures) in
+    relaxed-then
+    (relaxed-then (joined {Y = One w} front-twice rest (at-relax-at .relax-at .ensures)) (joined {Y = One w} front rest-twice (at-relax-at2 .relax-at2 .ensures)))
+    (joined {Y = One w} front front-y (at-relax-at3 .relax-at3 .ensures))
+
+pub relax-s-spec : {M : Type 1} → statement M
+relax-s-spec =
+    tie.close
+    (tie.spec
+    child-requires
+    tail-requires
+    child-requires-2
+    relax-at-requires
+    tail-requires-2
+    relax-at-requires-2
+    child-requires-3
+    relax-at-requires-3
+    same-length
+    returns)

@@ -1,0 +1,83 @@
+-- After a turns the first a nodes are done. Assumes nothing.
+use Prim.Native.Nat.{_-_, _≤_}
+use Rattle.levels.specs.Levels.{Relaxed}
+use Rattle.levels.specs.Passes.{Upto}
+use Rattle.levels.proofs.Relaxing.{relaxed-begins, relaxed-turn, lowers-length}
+use Rattle.tables.specs.Relaxing.{TripleColumn, TripleColumnTurn}
+use Rattle.tables.proofs.Steps.{ready-relaxed, relaxed-all, inside-relaxed, outside-relaxed}
+use borrow.Author.Needs.{needs}
+use native.Mathlib.Omega.{arith}
+use Rattle.tables.proofs.rules.relax_triple_column.Statement.{statement}
+use Rattle.tables.proofs.rules.relax_triple_column.Tie as tie
+
+abbrev Inv-loop : tie.InvT-loop
+Inv-loop table₀ width letters rests v t k a₀ table a = (a ≤ width) × Relaxed k (Upto (TripleColumnTurn width letters rests v t) a) table₀ table
+
+abbrev μ-loop : tie.MeasureT-loop
+μ-loop table₀ width letters rests v t k a₀ table a = width - a
+
+returns : tie.Need-returns Inv-loop μ-loop
+returns c =
+    let start = c .before .before .before .before in
+    let a = start .args in outside-relaxed (TripleColumn (a .width) (a .letters .now) (a .rests .now)) (λ row column. omega arith)
+
+returns-2 : tie.Need-returns-2 Inv-loop μ-loop
+returns-2 c =
+    let start = c .before .before .before .before .before in
+    let a = start .args in outside-relaxed (TripleColumn (a .width) (a .letters .now) (a .rests .now)) (λ row column. omega arith)
+
+loop-holds : tie.Need-loop-holds Inv-loop μ-loop
+loop-holds c = (omega arith, relaxed-begins)
+
+relax-triple-in-column-requires : tie.Need-relax-triple-in-column-requires Inv-loop μ-loop
+relax-triple-in-column-requires c κs =
+    let at-loop = c .before .before in
+    let at-if2 = at-loop .before in
+    let at-if1 = at-if2 .before in
+    let start = at-if1 .before .before .before .before in
+    let p = start .pre in
+    (ready-relaxed (p .0) (at-loop .loop .inv .1), (p .1 .0, (p .1 .1, (at-if1 .if1 .left, (at-if2 .if2 .left, c .before .loop-test .taken)))))
+
+add-a : tie.Need-add-a Inv-loop μ-loop
+add-a c = search needs
+
+loop-less : tie.Need-loop-less Inv-loop μ-loop
+loop-less c = search needs
+
+loop-again : tie.Need-loop-again Inv-loop μ-loop
+loop-again c =
+    let at-relax-triple-in-column = c .before .before in
+    let at-loop = at-relax-triple-in-column .before .before .before in
+    let start = at-loop .before .before .before .before .before .before in
+    let a = start .args in
+    let turn = TripleColumnTurn (a .width) (a .letters .now) (a .rests .now) (a .v) (a .t) in
+    (omega arith, relaxed-turn {Y = turn} (at-loop .loop .inv .1) (at-relax-triple-in-column .relax-triple-in-column .ensures))
+
+same-length : tie.Need-same-length Inv-loop μ-loop
+same-length c = lowers-length (c .before .loop .inv .1 .lowers)
+
+returns-3 : tie.Need-returns-3 Inv-loop μ-loop
+returns-3 c =
+    let at-if2 = c .before .before in
+    let at-if1 = at-if2 .before in
+    let start = at-if1 .before .before .before .before in
+    let a = start .args in
+    let turn = TripleColumnTurn (a .width) (a .letters .now) (a .rests .now) (a .v) (a .t) in
+    inside-relaxed (TripleColumn (a .width) (a .letters .now) (a .rests .now)) (at-if1 .if1 .left) (at-if2 .if2 .left)
+    (relaxed-all turn (c .before .loop .a) (a .width) (omega arith) (c .before .loop .inv .1))
+
+pub relax-triple-column-spec : {M : Type 1} → statement M
+relax-triple-column-spec =
+    tie.close
+    (tie.spec
+    Inv-loop
+    μ-loop
+    returns
+    returns-2
+    loop-holds
+    relax-triple-in-column-requires
+    add-a
+    loop-less
+    loop-again
+    same-length
+    returns-3)

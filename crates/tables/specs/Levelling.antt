@@ -1,0 +1,48 @@
+-- What a pass over the table does, and what the table of pairs is when all levels are done: numbers only.
+-- Assumes nothing: these are definitions.
+use mathlib.Core.Path.{_≡_}
+use mathlib.Core.List.{List}
+use Prim.Native.Nat.{ℕ, _+_, _*_, _≤_, _<_}
+use lib.ListN.{length}
+use Rattle.trees.specs.Tree.{at}
+use Rattle.levels.specs.Levels.{entry, Rules, Using, Relaxed, Closed}
+use Rattle.levels.specs.Passes.{Counts, Sound, Only, Upto, NoneBetween}
+use Rattle.tables.specs.Rules.{place, Rule}
+
+-- A place is visited at level k: where its entry is k, the rules that use it are relaxed; else nothing changes.
+pub data Visited (Rule : Rules) (k z : ℕ) (before after : List ℕ) : Type 0 where
+  relaxed : entry before z ≡ k → Relaxed k (Using Rule z) before after → Visited Rule k z before after
+  skipped : (entry before z ≡ k → ⊥) → after ≡ before → Visited Rule k z before after
+
+-- the first z places are visited, one after the other
+pub data Passes (Rule : Rules) (k : ℕ) : ℕ → List ℕ → List ℕ → Type 0 where
+  begin : {t : List ℕ} → Passes Rule k 0 t t
+  visit : {z : ℕ} {t t′ t″ : List ℕ} → Passes Rule k z t t′ → Visited Rule k z t′ t″ → Passes Rule k (z + 1) t t″
+
+-- the least entry above k, or n + 1
+pub record NextLevel (n : ℕ) (t : List ℕ) (k next : ℕ) : Type 0 where
+  pub above : k < next
+  pub bounded : next ≤ n + 1
+  pub none-between : NoneBetween (length t) t k next
+
+module _ (w : ℕ) (wholes : List ℕ) where
+  -- rule A: each generator leads from nothing to its own node
+  abbrev pub StartTurn : ℕ → ℕ → ℕ → Type 0
+  StartTurn j = Only (w * w) (place w 0 (at wholes j))
+
+  abbrev pub Starts : ℕ → ℕ → Type 0
+  Starts = Upto StartTurn (length wholes)
+
+module _ (w : ℕ) (letters rests wholes : List ℕ) where
+  -- v is made at the place z by rule A and the rules B to G
+  pub data Made : ℕ → ℕ → Type 0 where
+    whole : (j : ℕ) → j < length wholes → Made (place w 0 (at wholes j)) 1
+    one : {p q c v : ℕ} → Rule w letters rests p q c → w * w ≤ q → Made p v → Made c v
+    two : {p q c v v′ : ℕ} → Rule w letters rests p q c → Made p v → Made q v′ → Made c (v + v′)
+
+  -- The table is full: its entries are made by the rules, and no rule makes less, up to n.
+  pub record Full (n : ℕ) (t : List ℕ) : Type 0 where
+    pub counts : Counts n (w * w) t
+    pub starts : (j : ℕ) → j < length wholes → entry t (place w 0 (at wholes j)) ≤ 1
+    pub closed : Closed (Rule w letters rests) n t
+    pub made : Sound Made n t

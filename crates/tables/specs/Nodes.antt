@@ -1,0 +1,80 @@
+-- What the slices of a tree say of its nodes: numbers only. Assumes nothing: these are definitions.
+use mathlib.Core.Bool.{Bool, true, false}
+use mathlib.Core.Path.{_≡_}
+use mathlib.Core.List.{List}
+use Prim.Native.Nat.{ℕ, _*_, _≤_, _<_}
+use lib.ListN.{length}
+use Rattle.trees.specs.Tree.{at}
+
+-- what a test answers
+abbrev pub Tells : Bool → Type 0 → Type 0
+Tells true P = P
+Tells false P = P → ⊥
+
+-- r is the one number below w of which P is true, and is not below w where there is none
+pub record Finds (w : ℕ) (P : ℕ → Type 0) (r : ℕ) : Type 0 where
+  pub found : r < w → P r
+  pub only : (p : ℕ) → p < w → P p → p ≡ r
+
+-- each number among the first `many` is below the bound
+abbrev pub AllBelow : List ℕ → ℕ → ℕ → Type 0
+AllBelow nodes many bound = (p : ℕ) → p < many → at nodes p < bound
+
+-- each node but the first is behind its rest
+abbrev pub RestsEarlier : List ℕ → ℕ → Type 0
+RestsEarlier rests w = (p : ℕ) → 0 < p → p < w → at rests p < p
+
+-- What makes all lengths and numbers fit, before any number of a node is looked at.
+pub record Room (w lettersLength restsLength childrenRLength childrenSLength n tableLength : ℕ) : Type 0 where
+  pub some : 1 ≤ w
+  pub few : w ≤ 65535
+  pub letters : w ≤ lettersLength
+  pub rests : w ≤ restsLength
+  pub childrenR : w ≤ childrenRLength
+  pub childrenS : w ≤ childrenSLength
+  pub bound : n ≤ 1000
+  pub table : w * w ≤ tableLength
+
+-- c is noted as a child of p; 0 stands for none
+abbrev pub Noted : List ℕ → ℕ → ℕ → ℕ → Type 0
+Noted children w p c = (p < w) × (0 < c) × (at children p ≡ c)
+
+-- Letters, rests and the children by one letter whose indices can be followed.
+pub record Followed (w : ℕ) (letters rests children : List ℕ) : Type 0 where
+  pub room-letters : w ≤ length letters
+  pub room-rests : w ≤ length rests
+  pub room-children : w ≤ length children
+  pub rest-earlier : RestsEarlier rests w
+  pub inside : AllBelow children w w
+
+module _ (letters rests : List ℕ) (letter : ℕ) (children : List ℕ) where
+  -- p's child has the letter, and the rest p
+  abbrev pub ChildAgrees : ℕ → Type 0
+  ChildAgrees p = 0 < at children p → (at letters (at children p) ≡ letter) × (at rests (at children p) ≡ p)
+
+  -- p, where its word begins with the letter, is the child of its rest
+  abbrev pub RestAgrees : ℕ → Type 0
+  RestAgrees p = 0 < p → at letters p ≡ letter → at children (at rests p) ≡ p
+
+  -- the children by one letter agree with the letters and rests at p
+  pub record Agrees (p : ℕ) : Type 0 where
+    pub child : ChildAgrees p
+    pub rest : RestAgrees p
+
+  abbrev pub Agree : ℕ → Type 0
+  Agree w = (p : ℕ) → p < w → Agrees p
+
+module _ (w : ℕ) (letters rests : List ℕ) where
+  -- the word of the node a is the letter in front of the word of the node p
+  abbrev pub Front : ℕ → ℕ → ℕ → Type 0
+  Front letter a p = (0 < a) × (a < w) × (at letters a ≡ letter) × (at rests a ≡ p)
+
+  -- the children by one letter: they can be followed, and agree with the letters and rests
+  pub record Children (letter : ℕ) (children : List ℕ) : Type 0 where
+    pub followed : Followed w letters rests children
+    pub agree : Agree letters rests letter children w
+
+  -- The children by R and by S. Every tree has this.
+  pub record Linked (childrenR childrenS : List ℕ) : Type 0 where
+    pub r : Children 82 childrenR
+    pub s : Children 83 childrenS

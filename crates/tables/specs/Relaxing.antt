@@ -1,0 +1,75 @@
+-- Which rules each function relaxes at a pair of nodes (x, y), whose entry is the level. Assumes nothing: these are definitions.
+use mathlib.Core.Logic.{_⊎_}
+use mathlib.Core.List.{List}
+use Prim.Native.Nat.{ℕ, _*_, _≤_, _<_}
+use Rattle.levels.specs.Levels.{Uses}
+use Rattle.levels.specs.Passes.{Only, Upto, Counts}
+use Rattle.tables.specs.Rules.{place}
+use Rattle.tables.specs.Nodes.{Front}
+
+-- A table with a row and a column for each of w nodes, at a level. All sums of a level and an entry fit 16 bits.
+pub record Ready (w k : ℕ) (t : List ℕ) : Type 0 where
+  pub few : w ≤ 65535
+  pub positive : 1 ≤ k
+  pub small : k ≤ 1000
+  pub counts : Counts 1000 (w * w) t
+
+module _ (w : ℕ) where
+  -- the conclusion (a, b) of a rule with one premise
+  abbrev pub One : ℕ → ℕ → Uses
+  One a b = Only (w * w) (place w a b)
+
+  -- a is Q's by way of a node of which P is true
+  abbrev pub Through : (ℕ → Type 0) → (ℕ → ℕ → Type 0) → ℕ → Type 0
+  Through P Q a = (m : ℕ) × (m < w) × P m × Q m a
+
+  -- what two numbers use where both are nodes
+  abbrev pub Inside : ℕ → ℕ → (ℕ → ℕ → Uses) → Uses
+  Inside a b Y q c = (a < w) × (b < w) × Y a b q c
+
+  -- what the nodes a of which P is true and the nodes b of which Q is true use together
+  abbrev pub Joins : (ℕ → Type 0) → (ℕ → Type 0) → (ℕ → ℕ → Uses) → Uses
+  Joins P Q Y q c = (a : ℕ) × (b : ℕ) × (a < w) × (b < w) × P a × Q b × Y a b q c
+
+  -- F with (x, y) first: (x, j) from (y, j). F with (x, y) second: (i, y) from (i, x).
+  abbrev pub RowTurn : ℕ → ℕ → ℕ → Uses
+  RowTurn x y j = Only (place w y j) (place w x j)
+
+  abbrev pub ColumnTurn : ℕ → ℕ → ℕ → Uses
+  ColumnTurn x y i = Only (place w i x) (place w i y)
+
+  abbrev pub UsesF : ℕ → ℕ → Uses
+  UsesF x y q c = Upto (RowTurn x y) w q c ⊎ Upto (ColumnTurn x y) w q c
+
+  module _ (letters rests : List ℕ) where
+    -- B and G for the letter R
+    abbrev pub UsesR : ℕ → ℕ → Uses
+    UsesR x y q c =
+        Joins (λ a. Front w letters rests 82 a x) (λ b. Front w letters rests 82 y b) One q c
+        ⊎ Joins (λ a. Front w letters rests 82 a x) (λ b. Front w letters rests 82 b y) One q c
+
+    -- C, D, and G for the letter S
+    abbrev pub UsesS : ℕ → ℕ → Uses
+    UsesS x y q c =
+        (Joins (Through (λ m. Front w letters rests 83 m x) (λ m a. Front w letters rests 83 a m)) (λ b. Front w letters rests 83 y b) One q c
+        ⊎ Joins (λ a. Front w letters rests 83 a x) (Through (λ m. Front w letters rests 83 y m) (λ m b. Front w letters rests 83 m b)) One q c)
+        ⊎ Joins (λ a. Front w letters rests 83 a x) (λ b. Front w letters rests 83 b y) One q c
+
+    -- E with (x, y) first, where a is S in front of x and y is S in front of v: for each b that is S in front of some t, (a, t) from (v, b).
+    abbrev pub TripleRowTurn : ℕ → ℕ → ℕ → Uses
+    TripleRowTurn a v b q c = (t : ℕ) × (t < w) × Front w letters rests 83 b t × Only (place w v b) (place w a t) q c
+
+    -- E with (x, y) second, where v is S in front of x and y is S in front of t: for each a that is S in front of some u, (a, t) from (u, v).
+    abbrev pub TripleColumnTurn : ℕ → ℕ → ℕ → Uses
+    TripleColumnTurn v t a q c = (u : ℕ) × (u < w) × Front w letters rests 83 a u × Only (place w u v) (place w a t) q c
+
+    abbrev pub TripleRow : ℕ → ℕ → Uses
+    TripleRow a v = Upto (TripleRowTurn a v) w
+
+    abbrev pub TripleColumn : ℕ → ℕ → Uses
+    TripleColumn v t = Upto (TripleColumnTurn v t) w
+
+    abbrev pub UsesE : ℕ → ℕ → Uses
+    UsesE x y q c =
+        Joins (λ a. Front w letters rests 83 a x) (λ v. Front w letters rests 83 y v) TripleRow q c
+        ⊎ Joins (λ v. Front w letters rests 83 v x) (λ t. Front w letters rests 83 y t) TripleColumn q c

@@ -1,0 +1,224 @@
+// Whether the inputs fit, and whether the children agree with the letters and rests: tests in linear time.
+use crate::nodes::node;
+ghost use Prim.Native.Nat.{_≤_, _<_};
+ghost use lib.ListN.{length};
+ghost use Rattle.trees.specs.Tree.{Shape};
+ghost use Rattle.tables.specs.Filling.{Fits};
+ghost use Rattle.tables.specs.Nodes.{Tells, Room, AllBelow, RestsEarlier, Followed, ChildAgrees, RestAgrees, Agrees, Agree, Linked};
+
+// Whether each of the first `many` numbers is below the bound.
+fn all_below(nodes: &[u16], many: usize, bound: usize) -> bool
+    requires { ⌜ many ≤ length (now nodes) ⌝ }
+    ensures { λ r. ⌜ Tells r (AllBelow (now (nodes .entry)) many bound) ⌝ }
+{
+    let mut p = 0;
+    while p < many {
+        if bound <= node(nodes, p) {
+            return false;
+        }
+        p += 1;
+    }
+    true
+}
+
+// Whether each node but the first is behind its rest.
+fn rests_earlier(rests: &[u16], width: usize) -> bool
+    requires { ⌜ 1 ≤ width ⌝ }
+    requires { ⌜ width ≤ length (now rests) ⌝ }
+    ensures { λ r. ⌜ Tells r (RestsEarlier (now (rests .entry)) width) ⌝ }
+{
+    let mut p = 1;
+    while p < width {
+        if p <= node(rests, p) {
+            return false;
+        }
+        p += 1;
+    }
+    true
+}
+
+fn has_room(
+    width: usize,
+    letters: usize,
+    rests: usize,
+    children_r: usize,
+    children_s: usize,
+    n: u16,
+    table: usize,
+) -> bool
+    ensures { λ r. ⌜ Tells r (Room width letters rests «children_r» «children_s» n table) ⌝ }
+{
+    if width < 1 {
+        return false;
+    }
+    if 65535 < width {
+        return false;
+    }
+    if letters < width {
+        return false;
+    }
+    if rests < width {
+        return false;
+    }
+    if children_r < width {
+        return false;
+    }
+    if children_s < width {
+        return false;
+    }
+    if 1000 < n {
+        return false;
+    }
+    if table < width * width {
+        return false;
+    }
+    true
+}
+
+// Whether all numbers of nodes can be followed.
+fn has_shape(
+    width: usize,
+    letters: &[u8],
+    rests: &[u16],
+    children_r: &[u16],
+    children_s: &[u16],
+    wholes: &[u16],
+) -> bool
+    requires { ⌜ 1 ≤ width ⌝ }
+    requires { ⌜ width ≤ length (now letters) ⌝ }
+    requires { ⌜ width ≤ length (now rests) ⌝ }
+    requires { ⌜ width ≤ length (now «children_r») ⌝ }
+    requires { ⌜ width ≤ length (now «children_s») ⌝ }
+    ensures { λ r. ⌜ Tells r (Shape width (now (letters .entry)) (now (rests .entry)) (now («children_r» .entry)) (now («children_s» .entry)) (now (wholes .entry))) ⌝ }
+{
+    if rests_earlier(rests, width) {
+        if all_below(children_r, width, width) {
+            if all_below(children_s, width, width) {
+                return all_below(wholes, wholes.len(), width);
+            }
+        }
+    }
+    false
+}
+
+pub(crate) fn fits(
+    width: usize,
+    letters: &[u8],
+    rests: &[u16],
+    children_r: &[u16],
+    children_s: &[u16],
+    wholes: &[u16],
+    n: u16,
+    table: &[u16],
+) -> bool
+    ensures { λ r. ⌜ Tells r (Fits width (now (letters .entry)) (now (rests .entry)) (now («children_r» .entry)) (now («children_s» .entry)) (now (wholes .entry)) n (now (table .entry))) ⌝ }
+{
+    if has_room(
+        width,
+        letters.len(),
+        rests.len(),
+        children_r.len(),
+        children_s.len(),
+        n,
+        table.len(),
+    ) {
+        return has_shape(width, letters, rests, children_r, children_s, wholes);
+    }
+    false
+}
+
+// Whether p's child has the letter and the rest p.
+fn child_agrees(
+    letters: &[u8],
+    rests: &[u16],
+    letter: u8,
+    children: &[u16],
+    width: usize,
+    p: usize,
+) -> bool
+    requires { ⌜ p < width ⌝ }
+    requires { ⌜ Followed width (now letters) (now rests) (now children) ⌝ }
+    ensures { λ r. ⌜ Tells r (ChildAgrees (now (letters .entry)) (now (rests .entry)) letter (now (children .entry)) p) ⌝ }
+{
+    let c = node(children, p);
+    if c == 0 {
+        return true;
+    }
+    if letters[c] == letter {
+        return node(rests, c) == p;
+    }
+    false
+}
+
+// Whether p, where its word begins with the letter, is the child of its rest.
+fn rest_agrees(
+    letters: &[u8],
+    rests: &[u16],
+    letter: u8,
+    children: &[u16],
+    width: usize,
+    p: usize,
+) -> bool
+    requires { ⌜ p < width ⌝ }
+    requires { ⌜ Followed width (now letters) (now rests) (now children) ⌝ }
+    ensures { λ r. ⌜ Tells r (RestAgrees (now (letters .entry)) (now (rests .entry)) letter (now (children .entry)) p) ⌝ }
+{
+    if p == 0 {
+        return true;
+    }
+    if letters[p] == letter {
+        return node(children, node(rests, p)) == p;
+    }
+    true
+}
+
+fn agrees(
+    letters: &[u8],
+    rests: &[u16],
+    letter: u8,
+    children: &[u16],
+    width: usize,
+    p: usize,
+) -> bool
+    requires { ⌜ p < width ⌝ }
+    requires { ⌜ Followed width (now letters) (now rests) (now children) ⌝ }
+    ensures { λ r. ⌜ Tells r (Agrees (now (letters .entry)) (now (rests .entry)) letter (now (children .entry)) p) ⌝ }
+{
+    if child_agrees(letters, rests, letter, children, width, p) {
+        return rest_agrees(letters, rests, letter, children, width, p);
+    }
+    false
+}
+
+fn agree(letters: &[u8], rests: &[u16], letter: u8, children: &[u16], width: usize) -> bool
+    requires { ⌜ Followed width (now letters) (now rests) (now children) ⌝ }
+    ensures { λ r. ⌜ Tells r (Agree (now (letters .entry)) (now (rests .entry)) letter (now (children .entry)) width) ⌝ }
+{
+    let mut p = 0;
+    while p < width {
+        if agrees(letters, rests, letter, children, width, p) {
+            p += 1;
+        } else {
+            return false;
+        }
+    }
+    true
+}
+
+// Whether the children by both letters agree with the letters and rests. Those of every tree do.
+pub(crate) fn linked(
+    width: usize,
+    letters: &[u8],
+    rests: &[u16],
+    children_r: &[u16],
+    children_s: &[u16],
+) -> bool
+    requires { ⌜ Followed width (now letters) (now rests) (now «children_r») ⌝ }
+    requires { ⌜ Followed width (now letters) (now rests) (now «children_s») ⌝ }
+    ensures { λ r. ⌜ Tells r (Linked width (now (letters .entry)) (now (rests .entry)) (now («children_r» .entry)) (now («children_s» .entry))) ⌝ }
+{
+    if agree(letters, rests, 82, children_r, width) {
+        return agree(letters, rests, 83, children_s, width);
+    }
+    false
+}

@@ -1,0 +1,83 @@
+// Nodes of the tree and pairs of them. A node is a number below `width`; any other number stands for no node.
+ghost use mathlib.Core.Path.{_≡_};
+ghost use Prim.Native.Nat.{_+_, _*_, _≤_, _<_};
+ghost use lib.ListN.{length};
+ghost use Rattle.trees.specs.Tree.{at};
+ghost use Rattle.tables.specs.Rules.{place};
+ghost use Rattle.tables.specs.Nodes.{Finds, Noted, Front};
+
+fn wide(x: u16) -> usize
+    ensures { λ r. ⌜ r ≡ x ⌝ }
+{
+    x as usize
+}
+
+// The number at p of a slice of node numbers.
+pub(crate) fn node(nodes: &[u16], p: usize) -> usize
+    requires { ⌜ p < length (now nodes) ⌝ }
+    ensures { λ r. ⌜ r ≡ at (now (nodes .entry)) p ⌝ }
+{
+    wide(nodes[p])
+}
+
+// The child of p, where it has one.
+pub(crate) fn child(children: &[u16], width: usize, p: usize) -> usize
+    requires { ⌜ width ≤ length (now children) ⌝ }
+    ensures { λ r. ⌜ Finds width (Noted (now (children .entry)) width p) r ⌝ }
+{
+    if width <= p {
+        return width;
+    }
+    let c = node(children, p);
+    if c == 0 {
+        return width;
+    }
+    c
+}
+
+// The rest of p, where p's word begins with the letter. The letter of node 0 means nothing.
+pub(crate) fn tail(letters: &[u8], rests: &[u16], width: usize, letter: u8, p: usize) -> usize
+    requires { ⌜ width ≤ length (now letters) ⌝ }
+    requires { ⌜ width ≤ length (now rests) ⌝ }
+    ensures { λ r. ⌜ Finds width (Front width (now (letters .entry)) (now (rests .entry)) letter p) r ⌝ }
+{
+    if width <= p {
+        return width;
+    }
+    if p == 0 {
+        return width;
+    }
+    if letters[p] == letter {
+        return node(rests, p);
+    }
+    width
+}
+
+// The place of a pair in the table.
+pub(crate) fn cell(width: usize, row: usize, column: usize) -> usize
+    requires { ⌜ width ≤ 65535 ⌝ }
+    requires { ⌜ row < width ⌝ }
+    requires { ⌜ column < width ⌝ }
+    ensures { λ r. ⌜ (r ≡ place width row column) × (r < width * width) ⌝ }
+{
+    row * width + column
+}
+
+pub(crate) struct Pair {
+    pub(crate) row: usize,
+    pub(crate) column: usize,
+}
+
+// The pair at the next place. Behind the last pair of all comes the first of the row one past the end.
+pub(crate) fn next_pair(pair: Pair, width: usize) -> Pair
+    requires { ⌜ width ≤ 65535 ⌝ }
+    requires { ⌜ pair .row < width ⌝ }
+    requires { ⌜ pair .column < width ⌝ }
+    ensures { λ r. ⌜ (place width (r .row) (r .column) ≡ place width (pair .row) (pair .column) + 1) × (r .column < width) ⌝ }
+{
+    let next = cell(width, pair.row, pair.column) + 1;
+    Pair {
+        row: next / width,
+        column: next % width,
+    }
+}

@@ -1,0 +1,268 @@
+// The rules in which a pair (x, y) is a premise, relaxed with k, the pair's entry. specs/Rules.antt has the rules.
+use crate::nodes::cell;
+use crate::nodes::child;
+use crate::nodes::tail;
+use crate::relaxing::lower;
+use crate::relaxing::relax_at;
+use crate::relaxing::relax_from;
+ghost use Prim.Native.Nat.{_≤_, _<_};
+ghost use lib.ListN.{length};
+ghost use Rattle.levels.specs.Levels.{Relaxed, Using};
+ghost use Rattle.levels.specs.Passes.{Upto};
+ghost use Rattle.tables.specs.Rules.{place, Rule};
+ghost use Rattle.tables.specs.Nodes.{Children, Linked};
+ghost use Rattle.tables.specs.Relaxing.{
+  Ready,
+  Inside,
+  RowTurn,
+  ColumnTurn,
+  UsesF,
+  UsesR,
+  UsesS,
+  UsesE,
+  TripleRow,
+  TripleRowTurn,
+  TripleColumn,
+  TripleColumnTurn,
+};
+
+// F with the pair first: the row of x from the row of y.
+fn relax_row(table: &mut [u16], width: usize, x: usize, y: usize, k: u16)
+    requires { ⌜ Ready width k (now table) ⌝ }
+    requires { ⌜ x < width ⌝ }
+    requires { ⌜ y < width ⌝ }
+    ensures { λ _. ⌜ Relaxed k (Upto (RowTurn width x y) width) (now (table .entry)) (now (table .exit)) ⌝ }
+{
+    let to = cell(width, x, 0);
+    let from = cell(width, y, 0);
+    let mut j = 0;
+    while j < width {
+        lower(table, from + j, to + j, k);
+        j += 1;
+    }
+}
+
+fn relax_in_column(table: &mut [u16], width: usize, x: usize, y: usize, i: usize, k: u16)
+    requires { ⌜ Ready width k (now table) ⌝ }
+    requires { ⌜ x < width ⌝ }
+    requires { ⌜ y < width ⌝ }
+    requires { ⌜ i < width ⌝ }
+    ensures { λ _. ⌜ Relaxed k (ColumnTurn width x y i) (now (table .entry)) (now (table .exit)) ⌝ }
+{
+    relax_from(table, cell(width, i, x), cell(width, i, y), k);
+}
+
+// F with the pair second: the column of y from the column of x.
+fn relax_column(table: &mut [u16], width: usize, x: usize, y: usize, k: u16)
+    requires { ⌜ Ready width k (now table) ⌝ }
+    requires { ⌜ x < width ⌝ }
+    requires { ⌜ y < width ⌝ }
+    ensures { λ _. ⌜ Relaxed k (Upto (ColumnTurn width x y) width) (now (table .entry)) (now (table .exit)) ⌝ }
+{
+    let mut i = 0;
+    while i < width {
+        relax_in_column(table, width, x, y, i, k);
+        i += 1;
+    }
+}
+
+fn relax_f(table: &mut [u16], width: usize, x: usize, y: usize, k: u16)
+    requires { ⌜ Ready width k (now table) ⌝ }
+    requires { ⌜ x < width ⌝ }
+    requires { ⌜ y < width ⌝ }
+    ensures { λ _. ⌜ Relaxed k (UsesF width x y) (now (table .entry)) (now (table .exit)) ⌝ }
+{
+    relax_row(table, width, x, y, k);
+    relax_column(table, width, x, y, k);
+}
+
+// B and G for the letter R.
+fn relax_r(
+    table: &mut [u16],
+    width: usize,
+    letters: &[u8],
+    rests: &[u16],
+    children_r: &[u16],
+    x: usize,
+    y: usize,
+    k: u16,
+)
+    requires { ⌜ Ready width k (now table) ⌝ }
+    requires { ⌜ Children width (now letters) (now rests) 82 (now «children_r») ⌝ }
+    ensures { λ _. ⌜ Relaxed k (UsesR width (now (letters .entry)) (now (rests .entry)) x y) (now (table .entry)) (now (table .exit)) ⌝ }
+{
+    let a = child(children_r, width, x);
+    relax_at(table, width, a, tail(letters, rests, width, 82, y), k);
+    relax_at(table, width, a, child(children_r, width, y), k);
+}
+
+// C, D, and G for the letter S.
+fn relax_s(
+    table: &mut [u16],
+    width: usize,
+    letters: &[u8],
+    rests: &[u16],
+    children_s: &[u16],
+    x: usize,
+    y: usize,
+    k: u16,
+)
+    requires { ⌜ Ready width k (now table) ⌝ }
+    requires { ⌜ Children width (now letters) (now rests) 83 (now «children_s») ⌝ }
+    ensures { λ _. ⌜ Relaxed k (UsesS width (now (letters .entry)) (now (rests .entry)) x y) (now (table .entry)) (now (table .exit)) ⌝ }
+{
+    let a = child(children_s, width, x);
+    let b = tail(letters, rests, width, 83, y);
+    relax_at(table, width, child(children_s, width, a), b, k);
+    relax_at(table, width, a, tail(letters, rests, width, 83, b), k);
+    relax_at(table, width, a, child(children_s, width, y), k);
+}
+
+fn relax_triple_in_row(
+    table: &mut [u16],
+    width: usize,
+    letters: &[u8],
+    rests: &[u16],
+    a: usize,
+    v: usize,
+    b: usize,
+    k: u16,
+)
+    requires { ⌜ Ready width k (now table) ⌝ }
+    requires { ⌜ width ≤ length (now letters) ⌝ }
+    requires { ⌜ width ≤ length (now rests) ⌝ }
+    requires { ⌜ a < width ⌝ }
+    requires { ⌜ v < width ⌝ }
+    requires { ⌜ b < width ⌝ }
+    ensures { λ _. ⌜ Relaxed k (TripleRowTurn width (now (letters .entry)) (now (rests .entry)) a v b) (now (table .entry)) (now (table .exit)) ⌝ }
+{
+    let t = tail(letters, rests, width, 83, b);
+    if t < width {
+        relax_from(table, cell(width, v, b), cell(width, a, t), k);
+    }
+}
+
+// E with the pair first: x with S in front is a, y without its S is v.
+fn relax_triple_row(
+    table: &mut [u16],
+    width: usize,
+    letters: &[u8],
+    rests: &[u16],
+    a: usize,
+    v: usize,
+    k: u16,
+)
+    requires { ⌜ Ready width k (now table) ⌝ }
+    requires { ⌜ width ≤ length (now letters) ⌝ }
+    requires { ⌜ width ≤ length (now rests) ⌝ }
+    ensures { λ _. ⌜ Relaxed k (Inside width a v (TripleRow width (now (letters .entry)) (now (rests .entry)))) (now (table .entry)) (now (table .exit)) ⌝ }
+{
+    if width <= a {
+        return;
+    }
+    if width <= v {
+        return;
+    }
+    let mut b = 0;
+    while b < width {
+        relax_triple_in_row(table, width, letters, rests, a, v, b, k);
+        b += 1;
+    }
+}
+
+fn relax_triple_in_column(
+    table: &mut [u16],
+    width: usize,
+    letters: &[u8],
+    rests: &[u16],
+    v: usize,
+    t: usize,
+    a: usize,
+    k: u16,
+)
+    requires { ⌜ Ready width k (now table) ⌝ }
+    requires { ⌜ width ≤ length (now letters) ⌝ }
+    requires { ⌜ width ≤ length (now rests) ⌝ }
+    requires { ⌜ v < width ⌝ }
+    requires { ⌜ t < width ⌝ }
+    requires { ⌜ a < width ⌝ }
+    ensures { λ _. ⌜ Relaxed k (TripleColumnTurn width (now (letters .entry)) (now (rests .entry)) v t a) (now (table .entry)) (now (table .exit)) ⌝ }
+{
+    let u = tail(letters, rests, width, 83, a);
+    if u < width {
+        relax_from(table, cell(width, u, v), cell(width, a, t), k);
+    }
+}
+
+// E with the pair second: x with S in front is v, y without its S is t.
+fn relax_triple_column(
+    table: &mut [u16],
+    width: usize,
+    letters: &[u8],
+    rests: &[u16],
+    v: usize,
+    t: usize,
+    k: u16,
+)
+    requires { ⌜ Ready width k (now table) ⌝ }
+    requires { ⌜ width ≤ length (now letters) ⌝ }
+    requires { ⌜ width ≤ length (now rests) ⌝ }
+    ensures { λ _. ⌜ Relaxed k (Inside width v t (TripleColumn width (now (letters .entry)) (now (rests .entry)))) (now (table .entry)) (now (table .exit)) ⌝ }
+{
+    if width <= v {
+        return;
+    }
+    if width <= t {
+        return;
+    }
+    let mut a = 0;
+    while a < width {
+        relax_triple_in_column(table, width, letters, rests, v, t, a, k);
+        a += 1;
+    }
+}
+
+// E: the three S's of three factors.
+fn relax_e(
+    table: &mut [u16],
+    width: usize,
+    letters: &[u8],
+    rests: &[u16],
+    children_s: &[u16],
+    x: usize,
+    y: usize,
+    k: u16,
+)
+    requires { ⌜ Ready width k (now table) ⌝ }
+    requires { ⌜ Children width (now letters) (now rests) 83 (now «children_s») ⌝ }
+    ensures { λ _. ⌜ Relaxed k (UsesE width (now (letters .entry)) (now (rests .entry)) x y) (now (table .entry)) (now (table .exit)) ⌝ }
+{
+    let a = child(children_s, width, x);
+    let b = tail(letters, rests, width, 83, y);
+    relax_triple_row(table, width, letters, rests, a, b, k);
+    relax_triple_column(table, width, letters, rests, a, b, k);
+}
+
+// All rules in which the pair is a premise.
+pub(crate) fn relax_pair(
+    table: &mut [u16],
+    width: usize,
+    letters: &[u8],
+    rests: &[u16],
+    children_r: &[u16],
+    children_s: &[u16],
+    x: usize,
+    y: usize,
+    k: u16,
+)
+    requires { ⌜ Ready width k (now table) ⌝ }
+    requires { ⌜ Linked width (now letters) (now rests) (now «children_r») (now «children_s») ⌝ }
+    requires { ⌜ x < width ⌝ }
+    requires { ⌜ y < width ⌝ }
+    ensures { λ _. ⌜ Relaxed k (Using (Rule width (now (letters .entry)) (now (rests .entry))) (place width x y)) (now (table .entry)) (now (table .exit)) ⌝ }
+{
+    relax_f(table, width, x, y, k);
+    relax_r(table, width, letters, rests, children_r, x, y, k);
+    relax_s(table, width, letters, rests, children_s, x, y, k);
+    relax_e(table, width, letters, rests, children_s, x, y, k);
+}
