@@ -5,3 +5,13 @@ mod NextRows
 mod Filling
 pub mod WordRows
 pub mod Fitting
+mod Answers
+mod Choosing
+mod Stacked
+mod Advancing
+mod Premises
+mod Stepping
+mod Walks
+mod Descending
+mod Deciding
+mod Spelled

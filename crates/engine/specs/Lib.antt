@@ -1,5 +1,8 @@
 pub mod Questions
 pub mod Calls
 pub mod Path
-pub mod Witness
 pub mod Rounds
+pub mod Witness
+pub mod Tight
+pub mod Walk
+pub mod Descent

@@ -1,5 +1,9 @@
 // The bounded verdict: is the target a product of at most n generators?
+mod descent;
 mod path;
+mod stack;
+mod tight;
+mod witness;
 mod zeroing;
 
 use words::Factors;

@@ -1,0 +1,65 @@
+// The factors of a verdict. The table and the rows hold counts alone; the factors are found by going back from each entry to such entries that add up
+// to it. First along the rows, which leaves pairs of nodes on a stack, and then from pair to pair, until each is a generator.
+use crate::descent;
+use crate::stack;
+ghost use mathlib.Core.List.{List};
+ghost use Prim.Native.Nat.{_≤_};
+ghost use lib.ListN.{length};
+ghost use Rattle.words.specs.Word.{Word};
+ghost use Rattle.words.specs.Bytes.{word};
+ghost use Rattle.trees.specs.Tree.{at};
+ghost use Rattle.tables.specs.Rules.{place};
+ghost use Rattle.engine.specs.Witness.{Decided, SomeDecided, Spelled};
+
+// No stack is higher than there are factors, of which a bound allows 1,000.
+const ROOM: usize = 1000;
+
+// Writes the factors of a series that reaches the target, as few as the last row's entry says, and answers how many they are.
+pub(crate) fn write_witness(
+    target: &[u8],
+    count: usize,
+    letters: &[u8],
+    rests: &[u16],
+    children_r: &[u16],
+    children_s: &[u16],
+    wholes: &[u16],
+    n: u16,
+    table: &[u16],
+    rows: &[u16],
+    witness: &mut [u8],
+) -> usize
+    requires { ⌜ SomeDecided count n (now letters) (now rests) (now «children_r») (now «children_s») (now wholes) (now target) (now table) (now rows) ⌝ }
+    requires { ⌜ n ≤ length (now witness) ⌝ }
+    ensures { λ k. ⌜ ((gens words : List Word)
+        → Decided gens words count n (now (letters .entry)) (now (rests .entry)) (now («children_r» .entry)) (now («children_s» .entry)) (now (wholes .entry))
+        (now (target .entry)) (now (table .entry)) (now (rows .entry))
+        → Spelled gens (word (now (target .entry))) k (at (now (rows .entry)) (place count (length (now (target .entry))) 0)) (now (witness .entry)) (now (witness .exit))) ⌝ }
+{
+    let mut xs = [0u16; ROOM];
+    let mut ys = [0u16; ROOM];
+    let first = descent::descend(
+        target,
+        children_r,
+        children_s,
+        table,
+        rows,
+        count,
+        &mut xs,
+        &mut ys,
+    );
+    let height = first.height;
+    stack::put_pair(&mut xs, &mut ys, height, 0, first.node);
+    stack::write_pairs(
+        letters,
+        rests,
+        children_r,
+        children_s,
+        wholes,
+        table,
+        count,
+        &mut xs,
+        &mut ys,
+        height + 1,
+        witness,
+    )
+}
