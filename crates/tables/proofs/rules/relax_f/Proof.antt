@@ -3,6 +3,7 @@ use Rattle.levels.proofs.Relaxing.{relaxed-then, lowers-length}
 use mathlib.Core.Path.{_∙_}
 use Rattle.tables.proofs.Steps.{ready-relaxed}
 use borrow.Author.Needs.{needs}
+use native.Mathlib.Omega.{arith}
 use Rattle.tables.proofs.rules.relax_f.Statement.{statement}
 use Rattle.tables.proofs.rules.relax_f.Tie as tie
 
@@ -13,7 +14,7 @@ relax-column-requires : tie.Need-relax-column-requires
 relax-column-requires c κs =
     let at-relax-row = c .before .before .before in
     let start = at-relax-row .before .before .before in
-    let p = start .pre in (ready-relaxed (p .0) (at-relax-row .relax-row .ensures), p .1)
+    let p = start .pre in (ready-relaxed (p .0) (at-relax-row .relax-row .ensures), (omega (arith, p .1), omega (arith, p .1)))
 
 same-length : tie.Need-same-length
 same-length c =
