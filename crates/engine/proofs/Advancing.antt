@@ -20,7 +20,8 @@ use Rattle.engine.specs.Tight.{Counts, TightA}
 use Rattle.engine.specs.Walk.{named, Inside, burden, Advance}
 
 module _ {count : ℕ} {letters rests childrenR childrenS wholes table : List ℕ} where
-  pub advance-none : (pairs : List (ℕ × ℕ)) (written : List ℕ) → Inside count pairs → Advance count letters rests childrenR childrenS wholes table pairs written pairs written
+  pub advance-none : (pairs : List (ℕ × ℕ)) (written : List ℕ) → Inside count pairs
+      → Advance count letters rests childrenR childrenS wholes table pairs written pairs written
   advance-none pairs written h = record { inside = h; counts = refl; keeps = λ gens words tree size target k. k }
 
   pub advance-then : {pairs pairs₁ pairs₂ : List (ℕ × ℕ)} {written written₁ written₂ : List ℕ}
@@ -35,7 +36,8 @@ module _ {count : ℕ} {letters rests childrenR childrenS wholes table : List �
       }
 
   module _ (x y : ℕ) (pairs : List (ℕ × ℕ)) (inside : Inside count pairs) (written : List ℕ) where
-    pub advance-factor : (j : ℕ) → TightA count wholes table x y j → Advance count letters rests childrenR childrenS wholes table ((x, y) ∷ pairs) written pairs (written ++ j ∷ [])
+    pub advance-factor : (j : ℕ) → TightA count wholes table x y j
+        → Advance count letters rests childrenR childrenS wholes table ((x, y) ∷ pairs) written pairs (written ++ j ∷ [])
     advance-factor j t =
         record {
           inside = inside;
@@ -82,7 +84,8 @@ module _ {count : ℕ} {letters rests childrenR childrenS wholes table : List �
           counts = omega (arith, sum);
           keeps = λ gens words tree size target l. (
             l .0,
-            makes-two gens written (wordAt words x) (wordAt words y) (wordAt words a) (wordAt words b) (wordAt words c) (wordAt words d) (named words pairs) target
+            makes-two gens written (wordAt words x) (wordAt words y) (wordAt words a) (wordAt words b) (wordAt words c) (wordAt words d)
+                (named words pairs) target
                 (made-same gens words tree size) (l .1),
           );
         }

@@ -1,11 +1,11 @@
 -- What a search for a rule's premises finds, and which rule is left where others are not tight. Assumes nothing.
-use mathlib.Core.Path.{_≡_, refl, sym, subst, _∙_}
+use mathlib.Core.Path.{_≡_, refl, sym, subst}
 use mathlib.Core.List.{List}
-use Prim.Native.Nat.{ℕ, _+_, _<_}
+use Prim.Native.Nat.{ℕ, _<_}
 use native.Mathlib.Omega.{arith}
 use Rattle.trees.specs.Tree.{at}
 use Rattle.tables.specs.Rules.{place}
-use Rattle.engine.specs.Tight.{Names, Holds, Begins, RestBy, ChildOf, Same, TightA, TightB, TightC, TightD, TightE, TightF, TightG}
+use Rattle.engine.specs.Tight.{Names, Holds, RestBy, ChildOf, Same, Middle, TightA, TightB, TightC, TightD, TightE, TightF, TightG}
 use Rattle.engine.specs.Tight.{TightOne, B, C, D, G, TightTwo, E, F, Tight, factor, one, two}
 use Rattle.engine.specs.declared.tight.Node.{Node}
 use Rattle.engine.specs.declared.tight.Node.the-variants.{At, Nowhere}
@@ -43,23 +43,21 @@ module _ {count : ℕ} {letters rests childrenS table : List ℕ} {x y : ℕ} wh
 module _ (count : ℕ) (letters rests childrenS table : List ℕ) (x y : ℕ) where
   -- the middle one that was searched for
   pub middle-e : (k a b : ℕ) (r : Node) → RestBy letters rests 83 x a → ChildOf childrenS y b → k ≡ at table (place count x y)
-      → Names (λ v. (v < count) × (Begins letters 83 v × (k ≡ at table (place count a v) + at table (place count (at rests v) b)))) r
+      → Names (λ v. (v < count) × Middle count letters rests table k a b v) r
       → Names (λ v. TightE count letters rests childrenS table x y (at rests x) (at childrenS y) v) r
   middle-e k a b (At v) rest child same h =
-      let by-a = subst (λ (a₁ : ℕ). k ≡ at table (place count a₁ v) + at table (place count (at rests v) b)) (rest .1) (h .1 .1) in
-      let by-b = subst (λ (b₁ : ℕ). k ≡ at table (place count (at rests x) v) + at table (place count (at rests v) b₁)) (child .1) by-a in
+      let by-k = subst (λ (k₁ : ℕ). Middle count letters rests table k₁ a b v) same (h .1) in
+      let by-a = subst (λ (a₁ : ℕ). Middle count letters rests table (at table (place count x y)) a₁ b v) (rest .1) by-k in
       record {
         rest = (rest .0, refl);
         child = (omega (arith, child .0, child .1), refl);
         node = h .0;
-        second = h .1 .0;
-        sum = sym same ∙ by-b;
+        middle = subst (λ (b₁ : ℕ). Middle count letters rests table (at table (place count x y)) (at rests x) b₁ v) (child .1) by-a;
       }
   middle-e k a b Nowhere rest child same h = λ v t.
-      let by-a =
-      subst (λ (a₁ : ℕ). at table (place count x y) ≡ at table (place count a₁ v) + at table (place count (at rests v) (at childrenS y))) (sym (rest .1)) (t .sum) in
-      let by-b = subst (λ (b₁ : ℕ). at table (place count x y) ≡ at table (place count a v) + at table (place count (at rests v) b₁)) (sym (child .1)) by-a in
-      h v (t .node, (t .second, same ∙ by-b))
+      let by-k = subst (λ (k₁ : ℕ). Middle count letters rests table k₁ (at rests x) (at childrenS y) v) (sym same) (t .middle) in
+      let by-a = subst (λ (a₁ : ℕ). Middle count letters rests table k a₁ (at childrenS y) v) (sym (rest .1)) by-k in
+      h v (t .node, subst (λ (b₁ : ℕ). Middle count letters rests table k a b₁ v) (sym (child .1)) by-a)
 
 module _ {count : ℕ} {letters rests childrenR childrenS wholes table : List ℕ} {x y : ℕ} where
   pub by-two : ((j : ℕ) → TightA count wholes table x y j → ⊥) → ((a b : ℕ) → TightOne count letters rests childrenR childrenS table x y a b → ⊥)

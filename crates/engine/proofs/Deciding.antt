@@ -8,6 +8,7 @@ use native.Mathlib.Decide.{decLe, ℕ-discrete}
 use native.Mathlib.Omega.{arith}
 use lib.ListN.{length}
 use Rattle.words.specs.Word.{Letter, R, S, Word}
+use Rattle.words.specs.Bytes.{byte}
 use Rattle.products.specs.Product.{generator}
 use Rattle.products.specs.State.{State, LeastLead}
 use Rattle.products.proofs.States.{state-tail}
@@ -64,7 +65,8 @@ module _ {gens words : List Word} {count n : ℕ} {letters rests childrenR child
   exact u v s t =
       let (h, e) = state-node u s in
       let (i, f) = state-node v t in
-      subst (λ (w : Word). LeastLead gens n u w (T u v)) f (subst (λ (w : Word). LeastLead gens n w (wordAt words (node-number words v)) (T u v)) e (d .exact _ _ h i))
+      subst (λ (w : Word). LeastLead gens n u w (T u v)) f
+      (subst (λ (w : Word). LeastLead gens n w (wordAt words (node-number words v)) (T u v)) e (d .exact _ _ h i))
 
   -- the entry of two words, at their nodes
   entry-of : (p q : ℕ) (u v : Word) → p < count → q < count → wordAt words p ≡ u → wordAt words q ≡ v → T u v ≡ at table (place count p q)
@@ -95,6 +97,10 @@ module _ {gens words : List Word} {count n : ℕ} {letters rests childrenR child
   rest-node : (p : ℕ) → 0 < p → p < count → at rests p < count
   rest-node p z h = omega (arith, decided-rests .earlier p z h)
 
+  begins-with : (a : Letter) (p : ℕ) (q : Word) → p < count → wordAt words p ≡ a ∷ q → (0 < p) × (at letters p ≡ byte a) × (wordAt words (at rests p) ≡ q)
+  begins-with R p q h e = begins-r (d .tree) p (inside h) q e
+  begins-with S p q h e = begins-s (d .tree) p (inside h) q e
+
   abbrev Found : ℕ → ℕ → Type 0
   Found x y = SomeTight count letters rests childrenR childrenS wholes table x y
 
@@ -117,7 +123,8 @@ module _ {gens words : List Word} {count n : ℕ} {letters rests childrenR child
         one (TightOne.B (record {
           rest = ((b .0, b .1), refl);
           child = (c .0, refl);
-          same = sym (entry-of x y (R ∷ w) q h i ex ey) ∙ e ∙ entry-of (at rests x) (at childrenR y) w (R ∷ q) (rest-node x (b .0) h) (decided-r .inside y i) (b .2) (c .1);
+          same = sym (entry-of x y (R ∷ w) q h i ex ey) ∙ e
+              ∙ entry-of (at rests x) (at childrenR y) w (R ∷ q) (rest-node x (b .0) h) (decided-r .inside y i) (b .2) (c .1);
         })),
       )
   at-nodes (WordTight.C w q s e) x y h i ex ey =
@@ -138,14 +145,15 @@ module _ {gens words : List Word} {count n : ℕ} {letters rests childrenR child
       let b = begins-s (d .tree) x (inside h) w ex in
       let c = child-s-there y q i ey (state-tail gens s) in
       let k = decided-s .inside y i in
-      let c′ = child-s-there (at childrenS y) (S ∷ q) k (c .1) s in (
+      let c′ = child-s-there (at childrenS y) (S ∷ q) k (c .1) s in
+      let premise =
+      entry-of (at rests x) (at childrenS (at childrenS y)) w (S ∷ S ∷ q) (rest-node x (b .0) h) (decided-s .inside (at childrenS y) k) (b .2) (c′ .1) in (
         One (at rests x) (at childrenS (at childrenS y)),
         one (TightOne.D (record {
           rest = ((b .0, b .1), refl);
           some = c .0;
           child = (c′ .0, refl);
-          same = sym (entry-of x y (S ∷ w) q h i ex ey) ∙ e
-              ∙ entry-of (at rests x) (at childrenS (at childrenS y)) w (S ∷ S ∷ q) (rest-node x (b .0) h) (decided-s .inside (at childrenS y) k) (b .2) (c′ .1);
+          same = sym (entry-of x y (S ∷ w) q h i ex ey) ∙ e ∙ premise;
         })),
       )
   at-nodes (WordTight.E w m q s t e) x y h i ex ey =
@@ -161,8 +169,7 @@ module _ {gens words : List Word} {count n : ℕ} {letters rests childrenR child
           rest = ((b .0, b .1), refl);
           child = (c .0, refl);
           node = k;
-          second = (b′ .0, b′ .1);
-          sum = omega (arith, entry-of x y (S ∷ w) q h i ex ey, e, first, second);
+          middle = ((b′ .0, b′ .1), omega (arith, entry-of x y (S ∷ w) q h i ex ey, e, first, second));
         })),
       )
   at-nodes (WordTight.F u m q s e) x y h i ex ey =
@@ -171,34 +178,23 @@ module _ {gens words : List Word} {count n : ℕ} {letters rests childrenR child
       let first = entry-of x v u m h k ex f in
       let second = entry-of v y m q k i f ey in
       (Two x v v y, two (TightTwo.F (record { node = k; sum = omega (arith, entry-of x y u q h i ex ey, e, first, second) })))
-  at-nodes (WordTight.G a w z e) x y h i ex ey = by-letter a e ex ey
-    where
-      by-letter : (a : Letter) → T (a ∷ w) (a ∷ z) ≡ T w z → wordAt words x ≡ a ∷ w → wordAt words y ≡ a ∷ z → Found x y
-      by-letter R e ex ey =
-          let b = begins-r (d .tree) x (inside h) w ex in
-          let b′ = begins-r (d .tree) y (inside i) z ey in (
-            One (at rests x) (at rests y),
-            one (TightOne.G (record {
-              some = (b .0, b′ .0);
-              letter = b .1 ∙ sym (b′ .1);
-              rest = (refl, refl);
-              same = sym (entry-of x y (R ∷ w) (R ∷ z) h i ex ey) ∙ e ∙ entry-of (at rests x) (at rests y) w z (rest-node x (b .0) h) (rest-node y (b′ .0) i) (b .2) (b′ .2);
-            })),
-          )
-      by-letter S e ex ey =
-          let b = begins-s (d .tree) x (inside h) w ex in
-          let b′ = begins-s (d .tree) y (inside i) z ey in (
-            One (at rests x) (at rests y),
-            one (TightOne.G (record {
-              some = (b .0, b′ .0);
-              letter = b .1 ∙ sym (b′ .1);
-              rest = (refl, refl);
-              same = sym (entry-of x y (S ∷ w) (S ∷ z) h i ex ey) ∙ e ∙ entry-of (at rests x) (at rests y) w z (rest-node x (b .0) h) (rest-node y (b′ .0) i) (b .2) (b′ .2);
-            })),
-          )
+  at-nodes (WordTight.G a w z e) x y h i ex ey =
+      let b = begins-with a x w h ex in
+      let b′ = begins-with a y z i ey in (
+        One (at rests x) (at rests y),
+        one (TightOne.G (record {
+          some = (b .0, b′ .0);
+          letter = b .1 ∙ sym (b′ .1);
+          rest = (refl, refl);
+          same = sym (entry-of x y (a ∷ w) (a ∷ z) h i ex ey) ∙ e
+              ∙ entry-of (at rests x) (at rests y) w z (rest-node x (b .0) h) (rest-node y (b′ .0) i) (b .2) (b′ .2);
+        })),
+      )
 
   pub decided-tight : (x y : ℕ) → x < count → y < count → at table (place count x y) ≤ n → Found x y
   decided-tight x y h i l =
       let same = entry-of x y (wordAt words x) (wordAt words y) h i refl refl in
-      at-nodes (exact-tight gens n T (all-reduced gens (d .normal)) exact (wordAt words x) (wordAt words y) (d .tree .state x (inside h)) (d .tree .state y (inside i)) (omega (arith, same, l)))
-      x y h i refl refl
+      let tight =
+      exact-tight gens n T (all-reduced gens (d .normal)) exact (wordAt words x) (wordAt words y) (d .tree .state x (inside h)) (d .tree .state y (inside i))
+      (omega (arith, same, l)) in
+      at-nodes tight x y h i refl refl

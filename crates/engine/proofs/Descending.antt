@@ -66,6 +66,10 @@ read-some n m e h =
     ]
 
 module _ {count : ℕ} {childrenR childrenS target table rows : List ℕ} where
+  pub descent-at : {i k q : ℕ} {pairs : List (ℕ × ℕ)} → i ≡ k → Descent count childrenR childrenS target table rows i q pairs
+      → Descent count childrenR childrenS target table rows k q pairs
+  descent-at {q} {pairs} e d = subst (λ (j : ℕ). Descent count childrenR childrenS target table rows j q pairs) e d
+
   pub descent-start : 1 ≤ count → Descent count childrenR childrenS target table rows (length target) 0 []
   descent-start some =
       record {
@@ -103,7 +107,8 @@ module _ {count : ℕ} {childrenR childrenS target table rows : List ℕ} where
         where
           of : at rows (place count (suc i) q) ≤ d .n
               → (at rows (place count (suc i) q) ≡ readEntry count (d .n) childrenR childrenS target table rows i q)
-              ⊎ ((v : ℕ) × (v < count) × (at rows (place count (suc i) q) ≡ readEntry count (d .n) childrenR childrenS target table rows i v + at table (place count v q)))
+              ⊎ ((v : ℕ) × (v < count)
+              × (at rows (place count (suc i) q) ≡ readEntry count (d .n) childrenR childrenS target table rows i v + at table (place count v q)))
               → Steps
           of low (inl e) =
               let r = read-some (d .n) (readNode count (d .n) childrenR childrenS target table rows i q)

@@ -101,9 +101,9 @@ module _ {count : ℕ} {letters rests childrenR childrenS wholes table : List �
       record {
         earlier = omega (arith, rest-inside 83 a (t .rest));
         second = t .node;
-        third = omega (arith, t .node, w .tops .earlier v (t .second .0) (t .node));
+        third = omega (arith, t .node, w .tops .earlier v (t .middle .0 .0) (t .node));
         fourth = omega (arith, t .child .1, w .by-s .inside y i);
-        sum = t .sum;
+        sum = t .middle .1;
       }
   two-inside a b c d (F t) = record { earlier = omega arith; second = t .node; third = t .node; fourth = i; sum = t .sum }
 
@@ -111,14 +111,15 @@ module _ {count : ℕ} {letters rests childrenR childrenS wholes table : List �
     two-made : (a b c d : ℕ) → Both a b c d
         → Equal (made (wordAt words x) (wordAt words y)) (made (wordAt words a) (wordAt words b) ++ made (wordAt words c) (wordAt words d))
     two-made a b c d (E {v} t) =
-        let middle : wordAt words v ≡ S ∷ wordAt words (at rests v) = rest-s tree size v (at rests v) (t .node) (t .second, refl) in
+        let middle : wordAt words v ≡ S ∷ wordAt words (at rests v) = rest-s tree size v (at rests v) (t .node) (t .middle .0, refl) in
         rw (rest-s tree size x a h (t .rest), middle, child-s tree size y d i (t .child)) (made-e (wordAt words a) (wordAt words (at rests v)) (wordAt words y))
     two-made a b c d (F {v} t) = made-f (wordAt words x) (wordAt words v) (wordAt words y)
 
   -- ---- the steps
 
   module _ (pairs : List (ℕ × ℕ)) (inside : Inside count pairs) where
-    pub advance-one : (written : List ℕ) (a b : ℕ) → One a b → Advance count letters rests childrenR childrenS wholes table ((x, y) ∷ pairs) written ((a, b) ∷ pairs) written
+    pub advance-one : (written : List ℕ) (a b : ℕ) → One a b
+        → Advance count letters rests childrenR childrenS wholes table ((x, y) ∷ pairs) written ((a, b) ∷ pairs) written
     advance-one written a b t =
         advance-to-one x y pairs inside written a b
         (omega (arith, one-earlier a b t)) (one-inside a b t) (one-same a b t) (λ gens words tree size. one-made gens words tree size a b t)

@@ -22,29 +22,43 @@ pub standing-height : {count : ℕ} {table : List ℕ} {n : ℕ} {xs ys witness 
 standing-height {count} {table} {xs} {ys} {height} counts s =
     omega (arith, s .owes, owed-height count table counts (stacked xs ys height) (s .inside), length-stacked xs ys height)
 
-module _ {count : ℕ} {letters rests childrenR childrenS wholes table : List ℕ} {n : ℕ}
-    (walkable : Walkable count letters rests childrenR childrenS wholes table n) {xs ys witness : List ℕ} {height written : ℕ}
-    (standing : Standing count table n xs ys witness height written) (some : 0 < height)
-    {x y : ℕ} (at-x : x ≡ at xs (height - 1)) (at-y : y ≡ at ys (height - 1)) where
+-- The walk before a step: x and y are the pair on top.
+pub record Before (count : ℕ) (letters rests childrenR childrenS wholes table xs ys witness : List ℕ) (height written x y : ℕ) : Type 0 where
+  pub n : ℕ
+  pub walkable : Walkable count letters rests childrenR childrenS wholes table n
+  pub standing : Standing count table n xs ys witness height written
+  pub some : 0 < height
+  pub at-x : x ≡ at xs (height - 1)
+  pub at-y : y ≡ at ys (height - 1)
+
+module _ {count : ℕ} {letters rests childrenR childrenS wholes table xs ys witness : List ℕ} {height written x y : ℕ}
+    (top : Before count letters rests childrenR childrenS wholes table xs ys witness height written x y) where
   abbrev below : List (ℕ × ℕ)
   below = stacked xs ys (height - 1)
 
   on-top : stacked xs ys height ≡ (x, y) ∷ below
-  on-top = rw (at-x, at-y) (stacked-top xs ys height some)
+  on-top = rw (top .at-x, top .at-y) (stacked-top xs ys height (top .some))
 
   inside : Inside count ((x, y) ∷ below)
-  inside = subst (Inside count) on-top (standing .inside)
+  inside = subst (Inside count) on-top (top .standing .inside)
 
-  owes : written + (at table (place count x y) + owed count table below) ≤ n
-  owes = subst (λ (pairs : List (ℕ × ℕ)). written + owed count table pairs ≤ n) on-top (standing .owes)
+  owes : written + (at table (place count x y) + owed count table below) ≤ top .n
+  owes = subst (λ (pairs : List (ℕ × ℕ)). written + owed count table pairs ≤ top .n) on-top (top .standing .owes)
+
+  pub height-room : (height ≤ length xs) × (height ≤ length ys)
+  height-room =
+      let s = top .standing in
+      let high = standing-height (top .walkable .counts) s in
+      (omega (arith, s .bound, s .room-x), omega (arith, s .bound, s .room-y))
 
   pub choosable : (x < count) × (y < count) × SomeTight count letters rests childrenR childrenS wholes table x y
-  choosable = (inside .0, inside .1, walkable .tight x y (inside .0) (inside .1) (omega (arith, owes)))
+  choosable = (inside .0, inside .1, top .walkable .tight x y (inside .0) (inside .1) (omega (arith, owes)))
 
   -- what a step promises
   abbrev Steps : List ℕ → List ℕ → List ℕ → ℕ → ℕ → Type 0
   Steps xs₁ ys₁ witness₁ height₁ written₁ =
-      Advance count letters rests childrenR childrenS wholes table (stacked xs ys height) (take written witness) (stacked xs₁ ys₁ height₁) (take written₁ witness₁)
+      Advance count letters rests childrenR childrenS wholes table (stacked xs ys height) (take written witness)
+      (stacked xs₁ ys₁ height₁) (take written₁ witness₁)
       × ((burden count table (stacked xs₁ ys₁ height₁) < burden count table (stacked xs ys height)) × Behind written written₁ witness witness₁)
 
   -- the same of the pairs and of what is written
@@ -68,7 +82,7 @@ module _ {count : ℕ} {letters rests childrenR childrenS wholes table : List �
     is-a = tight-factor j (subst Here e t)
 
     pub factor-room : (written < length witness) × (j < 256)
-    factor-room = (omega (arith, owes, is-a .one, standing .room), omega (arith, is-a .factor, walkable .numbers))
+    factor-room = (omega (arith, owes, is-a .one, top .standing .room), omega (arith, is-a .factor, top .walkable .numbers))
 
     pub steps-factor : {witness₁ : List ℕ} → witness₁ ≡ set witness written j → Steps xs ys witness₁ (height - 1) (written + 1)
     steps-factor {witness₁} f =
@@ -83,7 +97,7 @@ module _ {count : ℕ} {letters rests childrenR childrenS wholes table : List �
         })
 
   same-witness : Behind written written witness witness
-  same-witness = record { more = omega arith; within = omega (arith, owes, standing .room); rest = refl }
+  same-witness = record { more = omega arith; within = omega (arith, owes, top .standing .room); rest = refl }
 
   -- ---- one pair for the one on top
 
@@ -96,18 +110,18 @@ module _ {count : ℕ} {letters rests childrenR childrenS wholes table : List �
 
     pub one-low : (a ≤ 65535) × (b ≤ 65535)
     one-low = (
-      omega (arith, one-earlier walkable x y (inside .0) (inside .1) a b is-one, inside .0, walkable .few),
-      omega (arith, one-inside walkable x y (inside .0) (inside .1) a b is-one, walkable .few),
+      omega (arith, one-earlier (top .walkable) x y (inside .0) (inside .1) a b is-one, inside .0, top .walkable .few),
+      omega (arith, one-inside (top .walkable) x y (inside .0) (inside .1) a b is-one, top .walkable .few),
     )
 
     pub steps-one : {xs₁ ys₁ : List ℕ} → xs₁ ≡ set xs (height - 1) a → ys₁ ≡ set ys (height - 1) b → Steps xs₁ ys₁ witness height written
     steps-one {xs₁} {ys₁} f g =
-        let high = standing-height (walkable .counts) standing in
+        let room = height-room in
         steps-of xs₁ ys₁ witness height written ((a, b) ∷ below) (take written witness)
-        (rw (f, g) (stacked-one xs ys height a b some (omega (arith, high, standing .bound, standing .room-x)) (omega (arith, high, standing .bound, standing .room-y))))
+        (rw (f, g) (stacked-one xs ys height a b (top .some) (room .0) (room .1)))
         refl
-        (advance-one walkable x y (inside .0) (inside .1) below (inside .2) (take written witness) a b is-one)
-        (lighter-one walkable x y (inside .0) (inside .1) below (inside .2) a b is-one)
+        (advance-one (top .walkable) x y (inside .0) (inside .1) below (inside .2) (take written witness) a b is-one)
+        (lighter-one (top .walkable) x y (inside .0) (inside .1) below (inside .2) a b is-one)
         same-witness
 
   -- ---- two pairs for the one on top
@@ -119,31 +133,32 @@ module _ {count : ℕ} {letters rests childrenR childrenS wholes table : List �
     is-two : TightTwo count letters rests childrenS table x y (Two a b c d)
     is-two = tight-two a b c d (subst Here e t)
 
-    abbrev nodes : TwoInside walkable x y (inside .0) (inside .1) a b c d
-    nodes = two-inside walkable x y (inside .0) (inside .1) a b c d is-two
+    abbrev nodes : TwoInside (top .walkable) x y (inside .0) (inside .1) a b c d
+    nodes = two-inside (top .walkable) x y (inside .0) (inside .1) a b c d is-two
 
     pub two-room : height < 1000
     two-room =
-        let first = walkable .counts .positive a b (omega (arith, nodes .earlier, inside .0)) (nodes .second) in
-        let second = walkable .counts .positive c d (nodes .third) (nodes .fourth) in
-        omega (arith, owes, nodes .sum, owed-height count table (walkable .counts) below (inside .2), length-stacked xs ys (height - 1), standing .bound)
+        let first = top .walkable .counts .positive a b (omega (arith, nodes .earlier, inside .0)) (nodes .second) in
+        let second = top .walkable .counts .positive c d (nodes .third) (nodes .fourth) in
+        let high = owed-height count table (top .walkable .counts) below (inside .2) in
+        omega (arith, owes, nodes .sum, length-stacked xs ys (height - 1), top .standing .bound)
 
     pub two-low : (a ≤ 65535) × (b ≤ 65535) × (c ≤ 65535) × (d ≤ 65535)
     two-low = (
-      omega (arith, nodes .earlier, inside .0, walkable .few),
-      omega (arith, nodes .second, walkable .few),
-      omega (arith, nodes .third, walkable .few),
-      omega (arith, nodes .fourth, walkable .few),
+      omega (arith, nodes .earlier, inside .0, top .walkable .few),
+      omega (arith, nodes .second, top .walkable .few),
+      omega (arith, nodes .third, top .walkable .few),
+      omega (arith, nodes .fourth, top .walkable .few),
     )
 
     pub steps-two : {xs₁ ys₁ : List ℕ} → xs₁ ≡ set (set xs (height - 1) c) height a → ys₁ ≡ set (set ys (height - 1) d) height b
         → Steps xs₁ ys₁ witness (height + 1) written
     steps-two {xs₁} {ys₁} f g =
-        let high = standing .room-x in
-        let wide = standing .room-y in
+        let room-x : height < length xs = omega (arith, two-room, top .standing .room-x) in
+        let room-y : height < length ys = omega (arith, two-room, top .standing .room-y) in
         steps-of xs₁ ys₁ witness (height + 1) written ((a, b) ∷ (c, d) ∷ below) (take written witness)
-        (rw (f, g) (stacked-two xs ys height c d some (omega (arith, two-room)) (omega (arith, two-room)) a b (omega (arith, two-room)) (omega (arith, two-room))))
+        (rw (f, g) (stacked-two xs ys height c d (top .some) (omega arith) (omega arith) a b room-x room-y))
         refl
-        (advance-two walkable x y (inside .0) (inside .1) below (inside .2) (take written witness) a b c d is-two)
-        (lighter-two walkable x y (inside .0) (inside .1) below (inside .2) a b c d is-two)
+        (advance-two (top .walkable) x y (inside .0) (inside .1) below (inside .2) (take written witness) a b c d is-two)
+        (lighter-two (top .walkable) x y (inside .0) (inside .1) below (inside .2) a b c d is-two)
         same-witness

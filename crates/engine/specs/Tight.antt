@@ -63,6 +63,10 @@ ChildOf children y b = (0 < b) × (b ≡ at children y)
 abbrev pub Same : ℕ → List ℕ → ℕ → ℕ → ℕ → ℕ → Type 0
 Same count table x y a b = at table (place count x y) ≡ at table (place count a b)
 
+-- The word of v begins with S, and the entries from a to v and from v's rest to b are k together: v serves as the middle one of rule E's three.
+abbrev pub Middle : ℕ → List ℕ → List ℕ → List ℕ → ℕ → ℕ → ℕ → ℕ → Type 0
+Middle count letters rests table k a b v = Begins letters 83 v × (k ≡ at table (place count a v) + at table (place count (at rests v) b))
+
 module _ (count : ℕ) (letters rests children table : List ℕ) where
   -- The rules with one premise, (a, b), by the children with R for B and by those with S for the others.
   pub record TightB (x y a b : ℕ) : Type 0 where
@@ -87,8 +91,7 @@ module _ (count : ℕ) (letters rests children table : List ℕ) where
     pub rest : RestBy letters rests 83 x a
     pub child : ChildOf children y b
     pub node : v < count
-    pub second : Begins letters 83 v
-    pub sum : at table (place count x y) ≡ at table (place count a v) + at table (place count (at rests v) b)
+    pub middle : Middle count letters rests table (at table (place count x y)) a b v
 
 pub record TightF (count : ℕ) (table : List ℕ) (x y v : ℕ) : Type 0 where
   pub node : v < count

@@ -1,9 +1,9 @@
 // The way back along the rows of a target, from the last row at nothing to row 0. An entry of row i + 1 is row i's where the target's letter i is
 // read, or such an entry and one of the table's together; then the table's pair is pushed. The pairs come off the stack in the order of the factors.
+use crate::entries::cell;
+use crate::entries::entry;
+use crate::entries::pair_entry;
 use crate::stack::put_pair;
-use crate::tight::cell;
-use crate::tight::entry;
-use crate::tight::pair_entry;
 ghost use mathlib.Core.Path.{_≡_};
 ghost use mathlib.Core.List.{List, _++_};
 ghost use Prim.Native.Nat.{ℕ, _+_, _≤_, _<_};
@@ -19,6 +19,7 @@ pub(crate) struct Place {
     pub(crate) height: usize,
 }
 
+// Is row i's entry at c, where the letter is read, that of row i + 1 at q?
 fn is_read(rows: &[u16], count: usize, i: usize, q: usize, c: usize) -> bool
     requires { ⌜ (q < count) × (c < count) × (place count (i + 1) count ≤ length (now rows)) ⌝ }
     ensures { λ r. ⌜ Tells (Read count (now (rows .entry)) i q c) r ⌝ }
@@ -29,6 +30,7 @@ fn is_read(rows: &[u16], count: usize, i: usize, q: usize, c: usize) -> bool
     cell(rows, count, i + 1, q) == cell(rows, count, i, c)
 }
 
+// Are row i's entry at the child of v, and the table's from v to q, that of row i + 1 at q together?
 fn is_chain(
     children: &[u16],
     table: &[u16],
@@ -90,7 +92,8 @@ fn back_by(
     requires { ⌜ (at .node < count) × (place count (i + 1) count ≤ length (now rows)) × (count ≤ 65535) ⌝ }
     requires { ⌜ (1000 ≤ length (now xs)) × (1000 ≤ length (now ys)) ⌝ }
     requires { ⌜ ((c : ℕ) × (pushed : List (ℕ × ℕ)) × Back count (now children) (now table) (now rows) i (at .node) c pushed) ⌝ }
-    requires { ⌜ ((c : ℕ) (pushed : List (ℕ × ℕ)) → Back count (now children) (now table) (now rows) i (at .node) c pushed → at .height + length pushed ≤ 1000) ⌝ }
+    requires { ⌜ ((c : ℕ) (pushed : List (ℕ × ℕ)) → Back count (now children) (now table) (now rows) i (at .node) c pushed
+        → at .height + length pushed ≤ 1000) ⌝ }
     ensures { λ r. ⌜ ((pushed : List (ℕ × ℕ)) × Back count (now (children .entry)) (now (table .entry)) (now (rows .entry)) i (at .node) (r .node) pushed
         × (stacked (now (xs .exit)) (now (ys .exit)) (r .height) ≡ pushed ++ stacked (now (xs .entry)) (now (ys .entry)) (at .height))) ⌝ }
 {
@@ -108,6 +111,7 @@ fn back_by(
     }
 }
 
+// One row back.
 fn back(
     target: &[u8],
     children_r: &[u16],
@@ -121,7 +125,8 @@ fn back(
     ys: &mut [u16],
 ) -> Place
     requires { ⌜ Descendable count (now «children_r») (now «children_s») (now target) (now table) (now rows) ⌝ }
-    requires { ⌜ Descent count (now «children_r») (now «children_s») (now target) (now table) (now rows) (i + 1) (at .node) (stacked (now xs) (now ys) (at .height)) ⌝ }
+    requires { ⌜ Descent count (now «children_r») (now «children_s») (now target) (now table) (now rows)
+        (i + 1) (at .node) (stacked (now xs) (now ys) (at .height)) ⌝ }
     requires { ⌜ (i < length (now target)) × (1000 ≤ length (now xs)) × (1000 ≤ length (now ys)) ⌝ }
     ensures { λ r. ⌜ Descent count (now («children_r» .entry)) (now («children_s» .entry)) (now (target .entry)) (now (table .entry)) (now (rows .entry))
         i (r .node) (stacked (now (xs .exit)) (now (ys .exit)) (r .height)) ⌝ }

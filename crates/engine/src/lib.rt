@@ -1,5 +1,6 @@
 // The bounded verdict: is the target a product of at most n generators?
 mod descent;
+mod entries;
 mod path;
 mod stack;
 mod tight;

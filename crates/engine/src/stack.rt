@@ -1,5 +1,6 @@
 // The pairs of nodes that are still to be spelled, on a stack: each has an entry of 1 or more, and the entries add up to the number of factors that
 // are still to be written, so that 1,000 places are enough. There is no recursion, since its depth would grow with the counts.
+use crate::entries::entry;
 use crate::tight;
 use crate::tight::Step;
 ghost use mathlib.Core.Path.{_≡_};
@@ -14,6 +15,7 @@ pub(crate) struct Top {
     pub(crate) written: usize,
 }
 
+// Puts a pair at some height.
 pub(crate) fn put_pair(xs: &mut [u16], ys: &mut [u16], height: usize, x: usize, y: usize)
     requires { ⌜ (height < length (now xs)) × (height < length (now ys)) × (x ≤ 65535) × (y ≤ 65535) ⌝ }
     ensures { λ _. ⌜ now (xs .exit) ≡ set (now (xs .entry)) height x ⌝ }
@@ -23,6 +25,7 @@ pub(crate) fn put_pair(xs: &mut [u16], ys: &mut [u16], height: usize, x: usize, 
     ys[height] = y as u16;
 }
 
+// Writes the number of a generator, behind those that are written already.
 fn put_factor(witness: &mut [u8], written: usize, j: usize)
     requires { ⌜ (written < length (now witness)) × (j < 256) ⌝ }
     ensures { λ _. ⌜ now (witness .exit) ≡ set (now (witness .entry)) written j ⌝ }
@@ -47,7 +50,8 @@ fn walk_once(
     requires { ⌜ ((n : ℕ) × Walkable count (now letters) (now rests) (now «children_r») (now «children_s») (now wholes) (now table) n
         × Standing count (now table) n (now xs) (now ys) (now witness) (top .height) (top .written)) ⌝ }
     requires { ⌜ 0 < top .height ⌝ }
-    ensures { λ r. ⌜ Advance count (now (letters .entry)) (now (rests .entry)) (now («children_r» .entry)) (now («children_s» .entry)) (now (wholes .entry)) (now (table .entry))
+    ensures { λ r. ⌜ Advance count (now (letters .entry)) (now (rests .entry)) (now («children_r» .entry)) (now («children_s» .entry))
+        (now (wholes .entry)) (now (table .entry))
         (stacked (now (xs .entry)) (now (ys .entry)) (top .height)) (take (top .written) (now (witness .entry)))
         (stacked (now (xs .exit)) (now (ys .exit)) (r .height)) (take (r .written) (now (witness .exit))) ⌝ }
     ensures { λ r. ⌜ burden count (now (table .entry)) (stacked (now (xs .exit)) (now (ys .exit)) (r .height))
@@ -56,8 +60,8 @@ fn walk_once(
 {
     let height = top.height;
     let written = top.written;
-    let x = tight::entry(xs, height - 1);
-    let y = tight::entry(ys, height - 1);
+    let x = entry(xs, height - 1);
+    let y = entry(ys, height - 1);
     match tight::choose(
         letters,
         rests,
@@ -107,7 +111,8 @@ pub(crate) fn write_pairs(
 ) -> usize
     requires { ⌜ ((n : ℕ) × Walkable count (now letters) (now rests) (now «children_r») (now «children_s») (now wholes) (now table) n
         × Standing count (now table) n (now xs) (now ys) (now witness) height 0) ⌝ }
-    ensures { λ r. ⌜ Advance count (now (letters .entry)) (now (rests .entry)) (now («children_r» .entry)) (now («children_s» .entry)) (now (wholes .entry)) (now (table .entry))
+    ensures { λ r. ⌜ Advance count (now (letters .entry)) (now (rests .entry)) (now («children_r» .entry)) (now («children_s» .entry))
+        (now (wholes .entry)) (now (table .entry))
         (stacked (now (xs .entry)) (now (ys .entry)) height) [] [] (take r (now (witness .exit))) ⌝ }
     ensures { λ r. ⌜ Behind 0 r (now (witness .entry)) (now (witness .exit)) ⌝ }
 {

@@ -1,11 +1,12 @@
 // For a pair of nodes, a rule that is tight there: the entries of its premises add up to the pair's. A witness is walked from each pair to
 // the premises of such a rule. Those with one premise are tried before those with two, so that the walk is short.
+use crate::entries::entry;
+use crate::entries::pair_entry;
 ghost use mathlib.Core.Path.{_≡_};
-ghost use Prim.Native.Nat.{ℕ, _+_, _≤_, _<_};
+ghost use Prim.Native.Nat.{ℕ, _+_, _<_};
 ghost use lib.ListN.{length};
 ghost use Rattle.trees.specs.Tree.{at};
-ghost use Rattle.tables.specs.Rules.{place};
-ghost use Rattle.engine.specs.Tight.{Tells, Names, Holds, Rests, Children, Counts, Begins, RestBy, ChildOf, Same};
+ghost use Rattle.engine.specs.Tight.{Tells, Names, Holds, Rests, Children, Counts, RestBy, ChildOf, Same, Middle};
 ghost use Rattle.engine.specs.Tight.{TightA, TightB, TightC, TightD, TightE, TightF, TightG, TightOne, TightTwo, Tight, SomeTight};
 
 // A node, where there is one.
@@ -25,36 +26,6 @@ pub(crate) enum Step {
     Factor(usize),
     One(usize, usize),
     Two(usize, usize, usize, usize),
-}
-
-fn wide(x: u16) -> usize
-    ensures { λ r. ⌜ (r ≡ x) × (r ≤ 65535) ⌝ }
-{
-    x as usize
-}
-
-pub(crate) fn entry(s: &[u16], p: usize) -> usize
-    requires { ⌜ p < length (now s) ⌝ }
-    ensures { λ r. ⌜ (r ≡ at (now (s .entry)) p) × (r ≤ 65535) ⌝ }
-{
-    wide(s[p])
-}
-
-// The entry of a table or of the rows.
-pub(crate) fn cell(s: &[u16], count: usize, x: usize, y: usize) -> usize
-    requires { ⌜ place count x y < length (now s) ⌝ }
-    ensures { λ r. ⌜ (r ≡ at (now (s .entry)) (place count x y)) × (r ≤ 65535) ⌝ }
-{
-    entry(s, x * count + y)
-}
-
-// The entry of a pair of nodes.
-pub(crate) fn pair_entry(table: &[u16], count: usize, x: usize, y: usize) -> usize
-    requires { ⌜ Counts count (now table) ⌝ }
-    requires { ⌜ (x < count) × (y < count) ⌝ }
-    ensures { λ r. ⌜ (r ≡ at (now (table .entry)) (place count x y)) × (r ≤ 65535) ⌝ }
-{
-    cell(table, count, x, y)
 }
 
 // The rest of x's word, where it begins with the letter of that byte.
@@ -95,6 +66,7 @@ fn same(table: &[u16], count: usize, x: usize, y: usize, a: usize, b: usize) -> 
     Premise::Nothing
 }
 
+// Rule B: R is taken off x and put in front of y.
 fn rule_b(
     letters: &[u8],
     rests: &[u16],
@@ -119,6 +91,7 @@ fn rule_b(
     }
 }
 
+// Rule C: two S's are taken off x, and one is put in front of y.
 fn rule_c(
     letters: &[u8],
     rests: &[u16],
@@ -146,6 +119,7 @@ fn rule_c(
     }
 }
 
+// Rule D: an S is taken off x, and two are put in front of y.
 fn rule_d(
     letters: &[u8],
     rests: &[u16],
@@ -173,6 +147,7 @@ fn rule_d(
     }
 }
 
+// Rule G: the same letter is taken off both.
 fn rule_g(letters: &[u8], rests: &[u16], table: &[u16], count: usize, x: usize, y: usize) -> Premise
     requires { ⌜ Rests count (now letters) (now rests) ⌝ }
     requires { ⌜ Counts count (now table) ⌝ }
@@ -207,7 +182,8 @@ fn one_premise(
     requires { ⌜ Children count (now «children_s») ⌝ }
     requires { ⌜ Counts count (now table) ⌝ }
     requires { ⌜ (x < count) × (y < count) ⌝ }
-    ensures { λ r. ⌜ Holds (TightOne count (now (letters .entry)) (now (rests .entry)) (now («children_r» .entry)) (now («children_s» .entry)) (now (table .entry)) x y) r ⌝ }
+    ensures { λ r. ⌜ Holds (TightOne count (now (letters .entry)) (now (rests .entry)) (now («children_r» .entry)) (now («children_s» .entry))
+        (now (table .entry)) x y) r ⌝ }
 {
     match rule_g(letters, rests, table, count, x, y) {
         Premise::Pair(a, b) => Premise::Pair(a, b),
@@ -221,7 +197,7 @@ fn one_premise(
     }
 }
 
-// Does v serve as the middle one of rule E's three factors?
+// Does v serve as the middle one of rule E's three?
 fn is_middle(
     letters: &[u8],
     rests: &[u16],
@@ -235,8 +211,7 @@ fn is_middle(
     requires { ⌜ Rests count (now letters) (now rests) ⌝ }
     requires { ⌜ Counts count (now table) ⌝ }
     requires { ⌜ (a < count) × (b < count) × (v < count) ⌝ }
-    ensures { λ r. ⌜ Tells (Begins (now (letters .entry)) 83 v
-        × (k ≡ at (now (table .entry)) (place count a v) + at (now (table .entry)) (place count (at (now (rests .entry)) v) b))) r ⌝ }
+    ensures { λ r. ⌜ Tells (Middle count (now (letters .entry)) (now (rests .entry)) (now (table .entry)) k a b v) r ⌝ }
 {
     match rest_by(letters, rests, v, 83) {
         Node::Nowhere => false,
@@ -244,6 +219,7 @@ fn is_middle(
     }
 }
 
+// A v that does, where there is one.
 fn find_middle(
     letters: &[u8],
     rests: &[u16],
@@ -256,8 +232,7 @@ fn find_middle(
     requires { ⌜ Rests count (now letters) (now rests) ⌝ }
     requires { ⌜ Counts count (now table) ⌝ }
     requires { ⌜ (a < count) × (b < count) ⌝ }
-    ensures { λ r. ⌜ Names (λ v. (v < count) × (Begins (now (letters .entry)) 83 v
-        × (k ≡ at (now (table .entry)) (place count a v) + at (now (table .entry)) (place count (at (now (rests .entry)) v) b)))) r ⌝ }
+    ensures { λ r. ⌜ Names (λ v. (v < count) × Middle count (now (letters .entry)) (now (rests .entry)) (now (table .entry)) k a b v) r ⌝ }
 {
     let mut v = 0;
     while v < count {
@@ -269,7 +244,7 @@ fn find_middle(
     Node::Nowhere
 }
 
-// A v by which rule E is tight, where there is one.
+// Rule E: the three S's of x, v and the child of y cancel.
 fn rule_e(
     letters: &[u8],
     rests: &[u16],
@@ -303,6 +278,7 @@ fn rule_e(
     }
 }
 
+// Do the entries from x to v and from v to y add up to that from x to y?
 fn is_between(table: &[u16], count: usize, x: usize, y: usize, v: usize) -> bool
     requires { ⌜ Counts count (now table) ⌝ }
     requires { ⌜ (x < count) × (y < count) × (v < count) ⌝ }
@@ -312,7 +288,7 @@ fn is_between(table: &[u16], count: usize, x: usize, y: usize, v: usize) -> bool
         == pair_entry(table, count, x, v) + pair_entry(table, count, v, y)
 }
 
-// The v by which rule F is tight: there is one, so the search ends.
+// Rule F, where it is known to be tight: there is such a v, so the search ends.
 fn find_between(table: &[u16], count: usize, x: usize, y: usize) -> usize
     requires { ⌜ Counts count (now table) ⌝ }
     requires { ⌜ (x < count) × (y < count) ⌝ }
@@ -328,6 +304,7 @@ fn find_between(table: &[u16], count: usize, x: usize, y: usize) -> usize
     }
 }
 
+// A rule with two premises that is tight: E where it is, and else F.
 fn two_premises(
     letters: &[u8],
     rests: &[u16],
@@ -353,6 +330,7 @@ fn two_premises(
     }
 }
 
+// Is the generator j by itself what leads from x to y?
 fn is_whole(wholes: &[u16], table: &[u16], count: usize, x: usize, y: usize, j: usize) -> bool
     requires { ⌜ Counts count (now table) ⌝ }
     requires { ⌜ (x < count) × (y < count) × (j < length (now wholes)) ⌝ }
@@ -367,7 +345,7 @@ fn is_whole(wholes: &[u16], table: &[u16], count: usize, x: usize, y: usize, j: 
     pair_entry(table, count, x, y) == 1
 }
 
-// The generator that leads from nothing to y by itself, where x is nothing and there is one.
+// Rule A: a generator that leads from nothing to y by itself, where x is nothing and there is one.
 fn rule_a(wholes: &[u16], table: &[u16], count: usize, x: usize, y: usize) -> Node
     requires { ⌜ Counts count (now table) ⌝ }
     requires { ⌜ (x < count) × (y < count) ⌝ }
@@ -401,7 +379,8 @@ pub(crate) fn choose(
     requires { ⌜ Counts count (now table) ⌝ }
     requires { ⌜ (x < count) × (y < count) ⌝ }
     requires { ⌜ SomeTight count (now letters) (now rests) (now «children_r») (now «children_s») (now wholes) (now table) x y ⌝ }
-    ensures { λ r. ⌜ Tight count (now (letters .entry)) (now (rests .entry)) (now («children_r» .entry)) (now («children_s» .entry)) (now (wholes .entry)) (now (table .entry)) x y r ⌝ }
+    ensures { λ r. ⌜ Tight count (now (letters .entry)) (now (rests .entry)) (now («children_r» .entry)) (now («children_s» .entry))
+        (now (wholes .entry)) (now (table .entry)) x y r ⌝ }
 {
     match one_premise(letters, rests, children_r, children_s, table, count, x, y) {
         Premise::Pair(a, b) => Step::One(a, b),

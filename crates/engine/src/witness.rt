@@ -33,7 +33,8 @@ pub(crate) fn write_witness(
     ensures { λ k. ⌜ ((gens words : List Word)
         → Decided gens words count n (now (letters .entry)) (now (rests .entry)) (now («children_r» .entry)) (now («children_s» .entry)) (now (wholes .entry))
         (now (target .entry)) (now (table .entry)) (now (rows .entry))
-        → Spelled gens (word (now (target .entry))) k (at (now (rows .entry)) (place count (length (now (target .entry))) 0)) (now (witness .entry)) (now (witness .exit))) ⌝ }
+        → Spelled gens (word (now (target .entry))) k (at (now (rows .entry)) (place count (length (now (target .entry))) 0))
+        (now (witness .entry)) (now (witness .exit))) ⌝ }
 {
     let mut xs = [0u16; ROOM];
     let mut ys = [0u16; ROOM];

@@ -1,10 +1,10 @@
 -- The rows from the last down to row i are walked. Assumes nothing.
-use mathlib.Core.Path.{_≡_, refl, subst, _∙_}
-use Prim.Native.Nat.{ℕ, _+_, _-_, _≤_}
+use mathlib.Core.Path.{_≡_, refl, _∙_}
+use Prim.Native.Nat.{_+_, _-_, _≤_}
 use lib.ListN.{length}
 use Rattle.engine.specs.Walk.{stacked}
 use Rattle.engine.specs.Descent.{Descent}
-use Rattle.engine.proofs.Descending.{descent-start}
+use Rattle.engine.proofs.Descending.{descent-at, descent-start}
 use borrow.Author.Needs.{needs}
 use native.Mathlib.Omega.{arith}
 use Rattle.engine.proofs.descent.descend.Statement.{statement}
@@ -28,16 +28,12 @@ sub-i c = search needs
 
 back-requires : tie.Need-back-requires Inv-loop μ-loop
 back-requires c κs =
-    let start = c .before .before .before .before .before .before .before .before .before .before .before in
-    let a = start .args in
-    let p = start .pre in
+    let p = c .before .before .before .before .before .before .before .before .before .before .before .pre in
     let l = c .before .before .before .loop in
     let v = l .inv in
-    let up : l .i ≡ l .i - 1 + 1 = omega (arith, c .before .before .loop-test .taken) in
-    let here =
-    subst (λ (k : ℕ). Descent (a .count) (a .children-r .now) (a .children-s .now) (a .target .now) (a .table .now) (a .rows .now) k (l .at .node) (stacked (l .xs) (l .ys) (l .at .height)))
-    up (v .3) in
-    (p .0, (here, (omega (arith, v .0, c .before .before .loop-test .taken), omega (arith, v .1, p .1 .0), omega (arith, v .2, p .1 .1))))
+    let more = c .before .before .loop-test .taken in
+    let up : l .i ≡ l .i - 1 + 1 = omega arith in
+    (p .0, (descent-at up (v .3), (omega (arith, v .0), omega (arith, v .1, p .1 .0), omega (arith, v .2, p .1 .1))))
 
 loop-less : tie.Need-loop-less Inv-loop μ-loop
 loop-less c = search needs
@@ -60,11 +56,9 @@ same-length-2 c = c .before .loop .inv .2
 
 returns : tie.Need-returns Inv-loop μ-loop
 returns c =
-    let a = c .before .before .before .before .before .before .before .before .before .args in
     let l = c .before .loop in
     let none : l .i ≡ 0 = omega (arith, c .loop-test .left) in
-    subst (λ (k : ℕ). Descent (a .count) (a .children-r .now) (a .children-s .now) (a .target .now) (a .table .now) (a .rows .now) k (l .at .node) (stacked (l .xs) (l .ys) (l .at .height)))
-    none (l .inv .3)
+    descent-at none (l .inv .3)
 
 pub descend-spec : {M : Type 1} → statement M
 descend-spec =

@@ -3,11 +3,28 @@ use mathlib.Core.Path.{ap, _∙_}
 use mathlib.Core.List.{List}
 use Prim.Native.Nat.{ℕ}
 use lib.ListN.{set}
-use Rattle.engine.proofs.Stepping.{standing-height, choosable, factor-room, steps-factor, one-low, steps-one, two-room, two-low, steps-two}
+use Rattle.engine.proofs.Stepping.{standing-height, Before, height-room, choosable, factor-room, steps-factor}
+use Rattle.engine.proofs.Stepping.{one-low, steps-one, two-room, two-low, steps-two}
 use borrow.Author.Needs.{needs}
 use native.Mathlib.Omega.{arith}
 use Rattle.engine.proofs.stack.walk_once.Statement.{statement}
 use Rattle.engine.proofs.stack.walk_once.Tie as tie
+
+-- what is known where a rule is chosen
+before-choice : (c : tie.After-entry2)
+    → let a = c .before .before .before .before .before .before .before .before .before .before .before .before .before .args in
+    Before (a .count) (a .letters .now) (a .rests .now) (a .children-r .now) (a .children-s .now) (a .wholes .now) (a .table .now)
+    (a .xs .now) (a .ys .now) (a .witness .now) (a .top .height) (a .top .written) (c .before .before .entry .result) (c .entry2 .result)
+before-choice c =
+    let p = c .before .before .before .before .before .before .before .before .before .before .before .before .before .pre in
+    record {
+      n = p .0 .0;
+      walkable = p .0 .1;
+      standing = p .0 .2;
+      some = p .1;
+      at-x = c .before .before .entry .ensures .0;
+      at-y = c .entry2 .ensures .0;
+    }
 
 sub-entry : tie.Need-sub-entry
 sub-entry c = search needs
@@ -33,11 +50,9 @@ entry-requires-2 c κs =
 
 choose-requires : tie.Need-choose-requires
 choose-requires c κs =
-    let start = c .before .before .before .before .before .before .before .before .before .before .before .before .before in
-    let p = start .pre in
-    let w = p .0 .1 in
-    let s = p .0 .2 in
-    let k = choosable w s (p .1) (c .before .before .entry .ensures .0) (c .entry2 .ensures .0) in
+    let top = before-choice c in
+    let w = top .walkable in
+    let k = choosable top in
     (w .tops, (w .by-r, (w .by-s, (w .counts, ((k .0, k .1), k .2)))))
 
 enum-known-j : tie.Need-enum-known-j
@@ -46,13 +61,8 @@ enum-known-j c = search needs
 put-factor-requires : tie.Need-put-factor-requires
 put-factor-requires c κs =
     let chosen = c .before .before .before .before in
-    let start = chosen .before .before .before .before .before .before .before .before .before .before .before .before .before .before in
-    let p = start .pre in
-    let w = p .0 .1 in
-    let s = p .0 .2 in
-    let at-x = chosen .before .before .before .entry .ensures .0 in
-    let at-y = chosen .before .entry2 .ensures .0 in
-    factor-room w s (p .1) at-x at-y (chosen .choose .ensures) (c .before .before .j .given .1)
+    let top = before-choice (chosen .before) in
+    factor-room top (chosen .choose .ensures) (c .before .before .j .given .1)
 
 sub-t33 : tie.Need-sub-t33
 sub-t33 c = search needs
@@ -69,15 +79,10 @@ sub-put-pair c = search needs
 put-pair-requires : tie.Need-put-pair-requires
 put-pair-requires c κs =
     let chosen = c .before .before .before .before .before in
-    let start = chosen .before .before .before .before .before .before .before .before .before .before .before .before .before .before in
-    let p = start .pre in
-    let w = p .0 .1 in
-    let s = p .0 .2 in
-    let at-x = chosen .before .before .before .entry .ensures .0 in
-    let at-y = chosen .before .entry2 .ensures .0 in
-    let high = standing-height (w .counts) s in
-    let low = one-low w s (p .1) at-x at-y (chosen .choose .ensures) (c .before .before .before .a .given .1) in
-    (omega (arith, high, s .bound, s .room-x), omega (arith, high, s .bound, s .room-y), low .0, low .1)
+    let top = before-choice (chosen .before) in
+    let room = height-room top in
+    let low = one-low top (chosen .choose .ensures) (c .before .before .before .a .given .1) in
+    (omega (arith, room .0, top .some), omega (arith, room .1, top .some), low .0, low .1)
 
 enum-known-a-2 : tie.Need-enum-known-a-2
 enum-known-a-2 c = search needs
@@ -88,41 +93,28 @@ sub-put-pair-2 c = search needs
 put-pair-requires-2 : tie.Need-put-pair-requires-2
 put-pair-requires-2 c κs =
     let chosen = c .before .before .before .before .before in
-    let start = chosen .before .before .before .before .before .before .before .before .before .before .before .before .before .before in
-    let p = start .pre in
-    let w = p .0 .1 in
-    let s = p .0 .2 in
-    let at-x = chosen .before .before .before .entry .ensures .0 in
-    let at-y = chosen .before .entry2 .ensures .0 in
-    let high = standing-height (w .counts) s in
-    let low = two-low w s (p .1) at-x at-y (chosen .choose .ensures) (c .before .before .before .a2 .given .1) in
-    (omega (arith, high, s .bound, s .room-x), omega (arith, high, s .bound, s .room-y), low .2, low .3)
+    let top = before-choice (chosen .before) in
+    let room = height-room top in
+    let low = two-low top (chosen .choose .ensures) (c .before .before .before .a2 .given .1) in
+    (omega (arith, room .0, top .some), omega (arith, room .1, top .some), low .2, low .3)
 
 put-pair-requires-3 : tie.Need-put-pair-requires-3
 put-pair-requires-3 c κs =
-    let before = c .before .before .before .before .before .before .put-pair2 in
+    let put = c .before .before .before .before .before .before .put-pair2 in
     let two = c .before .before .before .before .before .before .before .before .before .before .a2 .given .1 in
     let chosen = c .before .before .before .before .before .before .before .before .before .before .before .before in
-    let start = chosen .before .before .before .before .before .before .before .before .before .before .before .before .before .before in
-    let p = start .pre in
-    let w = p .0 .1 in
-    let s = p .0 .2 in
-    let at-x = chosen .before .before .before .entry .ensures .0 in
-    let at-y = chosen .before .entry2 .ensures .0 in
-    let low = two-low w s (p .1) at-x at-y (chosen .choose .ensures) two in
-    let room = two-room w s (p .1) at-x at-y (chosen .choose .ensures) two in
-    (omega (arith, room, s .room-x, before .kept .0), omega (arith, room, s .room-y, before .kept .1 .0), low .0, low .1)
+    let top = before-choice (chosen .before) in
+    let low = two-low top (chosen .choose .ensures) two in
+    let room = two-room top (chosen .choose .ensures) two in
+    let s = top .standing in
+    (omega (arith, room, s .room-x, put .kept .0), omega (arith, room, s .room-y, put .kept .1 .0), low .0, low .1)
 
 add-t46 : tie.Need-add-t46
 add-t46 c =
+    let two = c .before .before .before .before .before .before .before .before .before .before .before .before .before .before .before .a2 .given .1 in
     let chosen = c .before .before .before .before .before .before .before .before .before .before .before .before .before .before .before .before .before in
-    let start = chosen .before .before .before .before .before .before .before .before .before .before .before .before .before .before in
-    let p = start .pre in
-    let w = p .0 .1 in
-    let s = p .0 .2 in
-    let at-x = chosen .before .before .before .entry .ensures .0 in
-    let at-y = chosen .before .entry2 .ensures .0 in
-    omega (arith, two-room w s (p .1) at-x at-y (chosen .choose .ensures) (c .before .before .before .before .before .before .before .before .before .before .before .before .before .before .before .a2 .given .1))
+    let top = before-choice (chosen .before) in
+    omega (arith, two-room top (chosen .choose .ensures) two)
 
 same-length : tie.Need-same-length
 same-length c = search needs
@@ -136,13 +128,8 @@ same-length-3 c = search needs
 returns : tie.Need-returns
 returns c =
     let chosen = c .before .before .before .before .before .before .before in
-    let start = chosen .before .before .before .before .before .before .before .before .before .before .before .before .before .before in
-    let p = start .pre in
-    let w = p .0 .1 in
-    let s = p .0 .2 in
-    let at-x = chosen .before .before .before .entry .ensures .0 in
-    let at-y = chosen .before .entry2 .ensures .0 in
-    steps-factor w s (p .1) at-x at-y (chosen .choose .ensures) (c .before .before .before .before .before .j .given .1) (c .before .before .put-factor .ensures)
+    let top = before-choice (chosen .before) in
+    steps-factor top (chosen .choose .ensures) (c .before .before .before .before .before .j .given .1) (c .before .before .put-factor .ensures)
 
 same-length-4 : tie.Need-same-length-4
 same-length-4 c = search needs
@@ -153,14 +140,9 @@ same-length-5 c = search needs
 returns-2 : tie.Need-returns-2
 returns-2 c =
     let chosen = c .before .before .before .before .before .before .before .before .before .before in
-    let start = chosen .before .before .before .before .before .before .before .before .before .before .before .before .before .before in
-    let p = start .pre in
-    let w = p .0 .1 in
-    let s = p .0 .2 in
-    let at-x = chosen .before .before .before .entry .ensures .0 in
-    let at-y = chosen .before .entry2 .ensures .0 in
+    let top = before-choice (chosen .before) in
     let put = c .before .before .before .before .put-pair .ensures in
-    steps-one w s (p .1) at-x at-y (chosen .choose .ensures) (c .before .before .before .before .before .before .before .before .a .given .1) (put .0) (put .1)
+    steps-one top (chosen .choose .ensures) (c .before .before .before .before .before .before .before .before .a .given .1) (put .0) (put .1)
 
 same-length-6 : tie.Need-same-length-6
 same-length-6 c = search needs
@@ -174,14 +156,9 @@ returns-3 c =
     let second = c .before .before .before .before .before .before .before .before .before .before .before .put-pair2 .ensures in
     let two = c .before .before .before .before .before .before .before .before .before .before .before .before .before .before .before .a2 .given in
     let chosen = c .before .before .before .before .before .before .before .before .before .before .before .before .before .before .before .before .before in
-    let start = chosen .before .before .before .before .before .before .before .before .before .before .before .before .before .before in
-    let p = start .pre in
-    let w = p .0 .1 in
-    let s = p .0 .2 in
-    let at-x = chosen .before .before .before .entry .ensures .0 in
-    let at-y = chosen .before .entry2 .ensures .0 in
-    let height = start .args .top .height in
-    steps-two w s (p .1) at-x at-y (chosen .choose .ensures) (two .1)
+    let top = before-choice (chosen .before) in
+    let height = chosen .before .before .before .before .before .before .before .before .before .before .before .before .before .before .args .top .height in
+    steps-two top (chosen .choose .ensures) (two .1)
     (first .0 ∙ ap (λ (l : List ℕ). set l height (two .0 .0)) (second .0))
     (first .1 ∙ ap (λ (l : List ℕ). set l height (two .0 .1 .0)) (second .1))
 

@@ -23,8 +23,9 @@ abbrev μ-loop : tie.MeasureT-loop
 
 loop-holds : tie.Need-loop-holds Inv-loop μ-loop
 loop-holds c =
-    let a = c .before .before .before .before .before .before .before .before .before .args in
-    (refl, refl, refl, advance-none _ [] (c .before .before .before .before .before .before .before .before .before .pre .2 .inside), behind-none 0 (a .witness .now) (omega arith))
+    let start = c .before .before .before .before .before .before .before .before .before in
+    let witness = start .args .witness .now in
+    (refl, refl, refl, advance-none _ [] (start .pre .2 .inside), behind-none 0 witness (omega arith))
 
 walk-once-requires : tie.Need-walk-once-requires Inv-loop μ-loop
 walk-once-requires c κs =

@@ -1,23 +1,15 @@
 -- No v so far is the middle one. Assumes nothing.
-use mathlib.Core.Path.{_≡_}
-use mathlib.Core.List.{List}
-use Prim.Native.Nat.{ℕ, _+_, _-_, _≤_, _<_}
+use Prim.Native.Nat.{ℕ, _-_, _≤_, _<_}
 use borrow.Author.Count.{below-none, below-more}
-use Rattle.trees.specs.Tree.{at}
-use Rattle.tables.specs.Rules.{place}
-use Rattle.engine.specs.Tight.{Begins}
+use Rattle.engine.specs.Tight.{Middle}
 use Rattle.engine.proofs.Answers.{tells-yes, tells-no}
 use borrow.Author.Needs.{needs}
 use native.Mathlib.Omega.{arith}
 use Rattle.engine.proofs.tight.find_middle.Statement.{statement}
 use Rattle.engine.proofs.tight.find_middle.Tie as tie
 
-abbrev Middle : List ℕ → List ℕ → List ℕ → ℕ → ℕ → ℕ → ℕ → ℕ → Type 0
-Middle letters rests table count k a b v =
-    Begins letters 83 v × (k ≡ at table (place count a v) + at table (place count (at rests v) b))
-
 abbrev Inv-loop : tie.InvT-loop
-Inv-loop letters rests table count k a b v₀ v = (v ≤ count) × ((u : ℕ) → u < v → Middle letters rests table count k a b u → ⊥)
+Inv-loop letters rests table count k a b v₀ v = (v ≤ count) × ((u : ℕ) → u < v → Middle count letters rests table k a b u → ⊥)
 
 abbrev μ-loop : tie.MeasureT-loop
 μ-loop letters rests table count k a b v₀ v = count - v

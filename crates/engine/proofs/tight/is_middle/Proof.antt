@@ -1,9 +1,9 @@
 -- The sum that rule E asks. Assumes nothing.
-use mathlib.Core.Path.{_≡_, refl, ap, _∙_}
+use mathlib.Core.Path.{refl, ap, _∙_}
 use Prim.Native.Nat.{ℕ, _+_}
 use Rattle.trees.specs.Tree.{at}
 use Rattle.tables.specs.Rules.{place}
-use Rattle.engine.specs.Tight.{Begins}
+use Rattle.engine.specs.Tight.{Middle}
 use Rattle.engine.proofs.Answers.{tells-equal, names-at, names-none}
 use borrow.Author.Needs.{needs}
 use native.Mathlib.Omega.{arith}
@@ -41,9 +41,7 @@ returns-2 c =
     let r = names-at _ (at-w .w .given .1) (at-w .before .before .rest-by .ensures) in
     let first = c .before .pair-entry .ensures .0 in
     let second = c .pair-entry2 .ensures .0 ∙ ap (λ (w : ℕ). at (a .table .now) (place (a .count) w (a .b))) (r .1) in
-    tells-equal
-    (Begins (a .letters .now) 83 (a .v)
-    × (a .k ≡ at (a .table .now) (place (a .count) (a .a) (a .v)) + at (a .table .now) (place (a .count) (at (a .rests .now) (a .v)) (a .b))))
+    tells-equal (Middle (a .count) (a .letters .now) (a .rests .now) (a .table .now) (a .k) (a .a) (a .b) (a .v))
     (a .k) (c .before .pair-entry .result + c .pair-entry2 .result)
     (λ e. (r .0, omega (arith, e, first, second))) (λ h. omega (arith, h .1, first, second))
 

@@ -34,9 +34,9 @@ same-requires c κs =
     let p = c .before .before .before .before .before .before .before .before .before .before .pre in
     let x = p .1 .1 .0 in
     let y = p .1 .1 .1 in
-    let some-x = positive _ (c .before .before .before .before .before .before .if1 .left) in
-    let some-y = positive _ (c .before .before .before .before .before .if2 .left) in
-    (p .1 .0, (x, y, omega (arith, c .before .entry .ensures .0, p .0 .earlier _ some-x x, x), omega (arith, c .entry2 .ensures .0, p .0 .earlier _ some-y y, y)))
+    let below-x = p .0 .earlier _ (positive _ (c .before .before .before .before .before .before .if1 .left)) x in
+    let below-y = p .0 .earlier _ (positive _ (c .before .before .before .before .before .if2 .left)) y in
+    (p .1 .0, (x, y, omega (arith, c .before .entry .ensures .0, below-x, x), omega (arith, c .entry2 .ensures .0, below-y, y)))
 
 returns-4 : tie.Need-returns-4
 returns-4 c =

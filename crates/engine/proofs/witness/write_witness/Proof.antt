@@ -1,8 +1,8 @@
 -- The rows are walked, and then the pairs. Assumes nothing.
 use mathlib.Core.Path.{_≡_, sym, subst, _∙_}
 use mathlib.Core.List.{List, [], _∷_}
-use Prim.Native.Nat.{ℕ, _+_}
-use lib.ListN.{take}
+use Prim.Native.Nat.{ℕ, _+_, _<_}
+use lib.ListN.{length, take, set}
 use Rattle.engine.specs.Walk.{stacked, Advance}
 use Rattle.engine.proofs.Stacked.{stacked-push, length-stacked}
 use Rattle.engine.proofs.Spelled.{walkable, descendable, last-room, standing-start, spelled}
@@ -11,6 +11,26 @@ use native.Mathlib.Omega.{arith}
 use Rattle.engine.proofs.witness.write_witness.Statement.{statement}
 use Rattle.engine.proofs.witness.write_witness.Tie as tie
 
+-- the stack has room for one pair more once the rows are walked, and is what it was with that pair on top
+room-left : (c : tie.After-descend)
+    → (c .descend .result .height < length (c .descend .last .1 .1 .1 .1 .1 .1 .0)) × (c .descend .result .height < length (c .descend .last .1 .1 .1 .1 .1 .1 .1 .0))
+room-left c =
+    let e = c .descend in
+    let xs = e .last .1 .1 .1 .1 .1 .1 .0 in
+    let ys = e .last .1 .1 .1 .1 .1 .1 .1 .0 in
+    let h = e .result .height in
+    let d = c .before .before .before .before .before .before .before .before .before .before .before .before .pre .0 .2 in
+    let room = last-room d (e .result .node) (stacked xs ys h) (e .ensures) in
+    let high = length-stacked xs ys h in
+    (omega (arith, room, high, e .kept .1 .1 .1 .1 .1 .1 .0), omega (arith, room, high, e .kept .1 .1 .1 .1 .1 .1 .1 .0))
+
+pushed : (c : tie.After-descend) (xs ys : List ℕ)
+    → xs ≡ set (c .descend .last .1 .1 .1 .1 .1 .1 .0) (c .descend .result .height) 0
+    → ys ≡ set (c .descend .last .1 .1 .1 .1 .1 .1 .1 .0) (c .descend .result .height) (c .descend .result .node)
+    → stacked xs ys (c .descend .result .height + 1)
+    ≡ (0, c .descend .result .node) ∷ stacked (c .descend .last .1 .1 .1 .1 .1 .1 .0) (c .descend .last .1 .1 .1 .1 .1 .1 .1 .0) (c .descend .result .height)
+pushed c xs ys f g = rw (f, g) (stacked-push _ _ _ 0 _ (room-left c .0) (room-left c .1))
+
 slice-aggregate-descend : tie.Need-slice-aggregate-descend
 slice-aggregate-descend c = search needs
 
@@ -18,7 +38,9 @@ slice-aggregate-descend-2 : tie.Need-slice-aggregate-descend-2
 slice-aggregate-descend-2 c = search needs
 
 descend-requires : tie.Need-descend-requires
-descend-requires c κs = (descendable (c .before .before .before .before .before .before .before .before .before .before .before .pre .0 .2), (omega arith, omega arith))
+descend-requires c κs =
+    let d = c .before .before .before .before .before .before .before .before .before .before .before .pre .0 .2 in
+    (descendable d, (omega arith, omega arith))
 
 slice-aggregate-put-pair : tie.Need-slice-aggregate-put-pair
 slice-aggregate-put-pair c = sym (c .before .before .before .descend .kept .1 .1 .1 .1 .1 .1 .0)
@@ -30,56 +52,38 @@ put-pair-requires : tie.Need-put-pair-requires
 put-pair-requires c κs =
     let walked = c .before .before .before .before in
     let e = walked .descend in
+    let room = room-left walked in
     let d = walked .before .before .before .before .before .before .before .before .before .before .before .before .pre .0 .2 in
-    let xs = e .last .1 .1 .1 .1 .1 .1 .0 in
-    let ys = e .last .1 .1 .1 .1 .1 .1 .1 .0 in
-    let h = e .result .height in
-    let q = e .result .node in
-    let room = last-room d q (stacked xs ys h) (e .ensures) in
-    let high = length-stacked xs ys h in (
-      omega (arith, room, high, e .kept .1 .1 .1 .1 .1 .1 .0),
-      omega (arith, room, high, e .kept .1 .1 .1 .1 .1 .1 .1 .0),
-      omega arith,
-      omega (arith, e .ensures .node, d .few),
-    )
+    (room .0, room .1, omega arith, omega (arith, e .ensures .node, d .few))
 
 slice-aggregate-write-pairs : tie.Need-slice-aggregate-write-pairs
-slice-aggregate-write-pairs c = sym (c .before .before .before .put-pair .kept .0 ∙ c .before .before .before .before .before .before .before .before .descend .kept .1 .1 .1 .1 .1 .1 .0)
+slice-aggregate-write-pairs c =
+    let walked = c .before .before .before .before .before .before .before .before in
+    sym (c .before .before .before .put-pair .kept .0 ∙ walked .descend .kept .1 .1 .1 .1 .1 .1 .0)
 
 slice-aggregate-write-pairs-2 : tie.Need-slice-aggregate-write-pairs-2
-slice-aggregate-write-pairs-2 c = sym (c .before .before .before .before .put-pair .kept .1 .0 ∙ c .before .before .before .before .before .before .before .before .before .descend .kept .1 .1 .1 .1 .1 .1 .1 .0)
+slice-aggregate-write-pairs-2 c =
+    let walked = c .before .before .before .before .before .before .before .before .before in
+    sym (c .before .before .before .before .put-pair .kept .1 .0 ∙ walked .descend .kept .1 .1 .1 .1 .1 .1 .1 .0)
 
 add-write-pairs : tie.Need-add-write-pairs
 add-write-pairs c =
     let walked = c .before .before .before .before .before .before .before .before .before in
     let e = walked .descend in
-    let d = walked .before .before .before .before .before .before .before .before .before .before .before .before .pre .0 .2 in
-    let xs = e .last .1 .1 .1 .1 .1 .1 .0 in
-    let ys = e .last .1 .1 .1 .1 .1 .1 .1 .0 in
-    let h = e .result .height in
-    let q = e .result .node in
-    let room = last-room d q (stacked xs ys h) (e .ensures) in
-    let high = length-stacked xs ys h in
-    omega (arith, room, high)
+    omega (arith, room-left walked .0, e .kept .1 .1 .1 .1 .1 .1 .0)
 
 write-pairs-requires : tie.Need-write-pairs-requires
 write-pairs-requires c κs =
     let p = c .before .before .before .before .before .put-pair in
     let walked = c .before .before .before .before .before .before .before .before .before .before in
     let e = walked .descend in
-    let d = walked .before .before .before .before .before .before .before .before .before .before .before .before .pre .0 .2 in
-    let xs = e .last .1 .1 .1 .1 .1 .1 .0 in
-    let ys = e .last .1 .1 .1 .1 .1 .1 .1 .0 in
-    let h = e .result .height in
-    let q = e .result .node in
-    let room = last-room d q (stacked xs ys h) (e .ensures) in
-    let high = length-stacked xs ys h in
     let start = walked .before .before .before .before .before .before .before .before .before .before .before .before in
-    let push = stacked-push xs ys h 0 q (omega (arith, room, high, e .kept .1 .1 .1 .1 .1 .1 .0)) (omega (arith, room, high, e .kept .1 .1 .1 .1 .1 .1 .1 .0)) in (
+    let d = start .pre .0 .2 in (
       start .args .n,
       walkable d,
-      standing-start d q (stacked xs ys h) (e .ensures) (p .last .0) (p .last .1 .0) (start .args .witness .now) (h + 1)
-          (omega (arith, p .kept .0, e .kept .1 .1 .1 .1 .1 .1 .0)) (omega (arith, p .kept .1 .0, e .kept .1 .1 .1 .1 .1 .1 .1 .0)) (start .pre .1) (rw (p .ensures .0, p .ensures .1) push),
+      standing-start d (e .result .node) _ (e .ensures) (p .last .0) (p .last .1 .0) (start .args .witness .now) (e .result .height + 1)
+          (omega (arith, p .kept .0, e .kept .1 .1 .1 .1 .1 .1 .0)) (omega (arith, p .kept .1 .0, e .kept .1 .1 .1 .1 .1 .1 .1 .0)) (start .pre .1)
+          (pushed walked _ _ (p .ensures .0) (p .ensures .1)),
     )
 
 same-length : tie.Need-same-length
@@ -91,24 +95,15 @@ returns c =
     let w = c .before .before .before .before .write-pairs in
     let walked = c .before .before .before .before .before .before .before .before .before .before .before .before .before .before .before in
     let e = walked .descend in
-    let d = walked .before .before .before .before .before .before .before .before .before .before .before .before .pre .0 .2 in
-    let xs = e .last .1 .1 .1 .1 .1 .1 .0 in
-    let ys = e .last .1 .1 .1 .1 .1 .1 .1 .0 in
-    let h = e .result .height in
-    let q = e .result .node in
-    let room = last-room d q (stacked xs ys h) (e .ensures) in
-    let high = length-stacked xs ys h in
     let a = walked .before .before .before .before .before .before .before .before .before .before .before .before .args in
-    let push = stacked-push xs ys h 0 q (omega (arith, room, high, e .kept .1 .1 .1 .1 .1 .1 .0)) (omega (arith, room, high, e .kept .1 .1 .1 .1 .1 .1 .1 .0)) in
-    let stack : stacked (p .last .0) (p .last .1 .0) (h + 1) ≡ (0, q) ∷ stacked xs ys h = rw (p .ensures .0, p .ensures .1) push in
     let factors = w .last .1 .1 .1 .1 .1 .1 .1 .1 .1 .1 .0 in
     let advance =
     subst
     (λ (pairs : List (ℕ × ℕ)).
     Advance (a .count) (a .letters .now) (a .rests .now) (a .children-r .now) (a .children-s .now) (a .wholes .now) (a .table .now)
     pairs [] [] (take (w .result) factors))
-    stack (w .ensures .0) in
-    λ gens words decided. spelled decided q (stacked xs ys h) (e .ensures) (a .witness .now) factors (w .result) advance (w .ensures .1)
+    (pushed walked _ _ (p .ensures .0) (p .ensures .1)) (w .ensures .0) in
+    λ gens words decided. spelled decided (e .result .node) _ (e .ensures) (a .witness .now) factors (w .result) advance (w .ensures .1)
 
 pub write-witness-spec : {M : Type 1} → statement M
 write-witness-spec =

@@ -2,8 +2,8 @@
 use lib.Arith.{digits-lt}
 use borrow.Author.Needs.{needs}
 use native.Mathlib.Omega.{arith}
-use Rattle.engine.proofs.tight.pair_entry.Statement.{statement}
-use Rattle.engine.proofs.tight.pair_entry.Tie as tie
+use Rattle.engine.proofs.entries.pair_entry.Statement.{statement}
+use Rattle.engine.proofs.entries.pair_entry.Tie as tie
 
 cell-requires : tie.Need-cell-requires
 cell-requires c κs = let p = c .before .pre in omega (arith, p .0 .room, digits-lt (p .1 .0) (p .1 .1))
