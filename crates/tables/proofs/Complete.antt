@@ -13,7 +13,7 @@ use Rattle.trees.specs.Tree.{at, wordAt, Tree}
 use Rattle.levels.specs.Levels.{entry}
 use Rattle.tables.specs.Rules.{place, Rule, IsR, IsS, B, C, D, E, F, GR, GS}
 use Rattle.tables.specs.Levelling.{Full}
-use Rattle.tables.proofs.TreeLaws.{node-number, node-number-at, state-number, begins-r, begins-s}
+use Rattle.trees.proofs.Nodes.{node-number, node-number-at, state-number, begins-r, begins-s}
 
 module _ {gens words : List Word} {letters rests childrenR childrenS wholes : List ℕ} (tree : Tree gens words letters rests childrenR childrenS wholes) where
   -- the node of a word

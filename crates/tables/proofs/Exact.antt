@@ -15,7 +15,7 @@ use Rattle.tables.specs.Rules.{place}
 use Rattle.tables.specs.Nodes.{Followed, Linked}
 use Rattle.tables.specs.Levelling.{Full}
 use Rattle.tables.proofs.Places.{place-inside}
-use Rattle.tables.proofs.TreeLaws.{node-number-at, child-r-node, child-s-node, child-r-found, child-s-found}
+use Rattle.trees.proofs.Nodes.{node-number-at, child-r-node, child-s-node, child-r-found, child-s-found}
 use Rattle.tables.proofs.Sound.{pair-led}
 use Rattle.tables.proofs.Complete.{words-closed, entry-at}
 

@@ -1,6 +1,5 @@
 pub mod Places
 pub mod Leading
-pub mod TreeLaws
 mod Telling
 mod Finding
 mod Steps

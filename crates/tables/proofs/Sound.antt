@@ -14,7 +14,7 @@ use Rattle.tables.specs.Rules.{place, Rule, B, C, D, E, F, GR, GS}
 use Rattle.tables.specs.Levelling.{Made, whole, one, two}
 use Rattle.tables.proofs.Places.{place-inside, same-row, same-column}
 use Rattle.tables.proofs.Forward.{rules-forward}
-use Rattle.tables.proofs.TreeLaws.{is-r, is-s}
+use Rattle.trees.proofs.Nodes.{is-r, is-s}
 use Rattle.tables.proofs.Leading.{leads-as, leads-b, leads-c, leads-d, leads-e}
 
 module _ {gens words : List Word} {letters rests childrenR childrenS wholes : List ℕ} (tree : Tree gens words letters rests childrenR childrenS wholes) where
