@@ -28,7 +28,7 @@ some-length (j ∷ r) ne = omega arith
 module _ {gens words : List Word} {count n : ℕ} {letters rests childrenR childrenS wholes target table rows : List ℕ}
     (d : Decided gens words count n letters rests childrenR childrenS wholes target table rows) where
   pub decided-shape : Shape count letters rests childrenR childrenS wholes
-  decided-shape = subst (λ (k : ℕ). Shape k letters rests childrenR childrenS wholes) (d .size) (d .tree .shape)
+  decided-shape = subst (λ (k : ℕ). Shape k letters rests childrenR childrenS wholes) (d .planted .size) (d .planted .tree .shape)
 
   pub decided-rests : Rests count letters rests
   decided-rests = let s = decided-shape in record { room-letters = s .room-letters; room = s .room-rests; earlier = s .rest-earlier }
@@ -55,10 +55,10 @@ module _ {gens words : List Word} {count n : ℕ} {letters rests childrenR child
   T u v = at table (place count (node-number words u) (node-number words v))
 
   inside : {p : ℕ} → p < count → p < length words
-  inside h = omega (arith, d .size)
+  inside h = omega (arith, d .planted .size)
 
   state-node : (u : Word) → State gens u → (node-number words u < count) × (wordAt words (node-number words u) ≡ u)
-  state-node u s = let f = state-number (d .tree) u s in (omega (arith, f .0, d .size), f .1)
+  state-node u s = let f = state-number (d .planted .tree) u s in (omega (arith, f .0, d .planted .size), f .1)
 
   exact : Exact gens n T
   unfolding T
@@ -72,8 +72,8 @@ module _ {gens words : List Word} {count n : ℕ} {letters rests childrenR child
   entry-of : (p q : ℕ) (u v : Word) → p < count → q < count → wordAt words p ≡ u → wordAt words q ≡ v → T u v ≡ at table (place count p q)
   unfolding T
   entry-of p q u v h i e f =
-      let first : node-number words u ≡ p = ap (node-number words) (sym e) ∙ node-number-at (d .tree) p (inside h) in
-      let second : node-number words v ≡ q = ap (node-number words) (sym f) ∙ node-number-at (d .tree) q (inside i) in
+      let first : node-number words u ≡ p = ap (node-number words) (sym e) ∙ node-number-at (d .planted .tree) p (inside h) in
+      let second : node-number words v ≡ q = ap (node-number words) (sym f) ∙ node-number-at (d .planted .tree) q (inside i) in
       rw (first, second)
 
   -- where the word with a letter in front is a state, the child is there
@@ -81,16 +81,16 @@ module _ {gens words : List Word} {count n : ℕ} {letters rests childrenR child
   child-there a p c q child e s =
       elim (ℕ-discrete c 0) [
         | yes z ↦
-            let (h, f) = state-number (d .tree) (a ∷ q) s in
+            let (h, f) = state-number (d .planted .tree) (a ∷ q) s in
             absurd (child .nowhere z (node-number words (a ∷ q)) h (f ∙ ap (λ (w : Word). a ∷ w) (sym e)))
         | no z ↦ let pos : 0 < c = omega arith in (pos, child .there pos ∙ ap (λ (w : Word). a ∷ w) e)
       ]
 
   child-r-there : (y : ℕ) (q : Word) → y < count → wordAt words y ≡ q → State gens (R ∷ q) → (0 < at childrenR y) × (wordAt words (at childrenR y) ≡ R ∷ q)
-  child-r-there y q h e s = child-there R y (at childrenR y) q (d .tree .child-r y (inside h)) e s
+  child-r-there y q h e s = child-there R y (at childrenR y) q (d .planted .tree .child-r y (inside h)) e s
 
   child-s-there : (y : ℕ) (q : Word) → y < count → wordAt words y ≡ q → State gens (S ∷ q) → (0 < at childrenS y) × (wordAt words (at childrenS y) ≡ S ∷ q)
-  child-s-there y q h e s = child-there S y (at childrenS y) q (d .tree .child-s y (inside h)) e s
+  child-s-there y q h e s = child-there S y (at childrenS y) q (d .planted .tree .child-s y (inside h)) e s
 
   -- ---- a rule that is tight at two words is tight at their nodes
 
@@ -98,8 +98,8 @@ module _ {gens words : List Word} {count n : ℕ} {letters rests childrenR child
   rest-node p z h = omega (arith, decided-rests .earlier p z h)
 
   begins-with : (a : Letter) (p : ℕ) (q : Word) → p < count → wordAt words p ≡ a ∷ q → (0 < p) × (at letters p ≡ byte a) × (wordAt words (at rests p) ≡ q)
-  begins-with R p q h e = begins-r (d .tree) p (inside h) q e
-  begins-with S p q h e = begins-s (d .tree) p (inside h) q e
+  begins-with R p q h e = begins-r (d .planted .tree) p (inside h) q e
+  begins-with S p q h e = begins-s (d .planted .tree) p (inside h) q e
 
   abbrev Found : ℕ → ℕ → Type 0
   Found x y = SomeTight count letters rests childrenR childrenS wholes table x y
@@ -107,17 +107,17 @@ module _ {gens words : List Word} {count n : ℕ} {letters rests childrenR child
   at-nodes : {u v : Word} → WordTight gens T u v → (x y : ℕ) → x < count → y < count → wordAt words x ≡ u → wordAt words y ≡ v → Found x y
   at-nodes (WordTight.A j f e) x y h i ex ey =
       let some = decided-shape .some in
-      let j-whole : j < length wholes = omega (arith, f, d .tree .wholes-count) in (
+      let j-whole : j < length wholes = omega (arith, f, d .planted .tree .wholes-count) in (
         Writes j,
         factor (record {
           factor = j-whole;
-          nothing = d .tree .once x 0 (inside h) (inside some) (ex ∙ sym (d .tree .root));
-          whole = d .tree .once y (at wholes j) (inside i) (inside (decided-shape .whole-inside j j-whole)) (ey ∙ sym (d .tree .whole j f));
+          nothing = d .planted .tree .once x 0 (inside h) (inside some) (ex ∙ sym (d .planted .tree .root));
+          whole = d .planted .tree .once y (at wholes j) (inside i) (inside (decided-shape .whole-inside j j-whole)) (ey ∙ sym (d .planted .tree .whole j f));
           one = sym (entry-of x y [] (generator gens j) h i ex ey) ∙ e;
         }),
       )
   at-nodes (WordTight.B w q s e) x y h i ex ey =
-      let b = begins-r (d .tree) x (inside h) w ex in
+      let b = begins-r (d .planted .tree) x (inside h) w ex in
       let c = child-r-there y q i ey s in (
         One (at rests x) (at childrenR y),
         one (TightOne.B (record {
@@ -128,9 +128,9 @@ module _ {gens words : List Word} {count n : ℕ} {letters rests childrenR child
         })),
       )
   at-nodes (WordTight.C w q s e) x y h i ex ey =
-      let b = begins-s (d .tree) x (inside h) (S ∷ w) ex in
+      let b = begins-s (d .planted .tree) x (inside h) (S ∷ w) ex in
       let k = rest-node x (b .0) h in
-      let b′ = begins-s (d .tree) (at rests x) (inside k) w (b .2) in
+      let b′ = begins-s (d .planted .tree) (at rests x) (inside k) w (b .2) in
       let c = child-s-there y q i ey s in (
         One (at rests (at rests x)) (at childrenS y),
         one (TightOne.C (record {
@@ -142,7 +142,7 @@ module _ {gens words : List Word} {count n : ℕ} {letters rests childrenR child
         })),
       )
   at-nodes (WordTight.D w q s e) x y h i ex ey =
-      let b = begins-s (d .tree) x (inside h) w ex in
+      let b = begins-s (d .planted .tree) x (inside h) w ex in
       let c = child-s-there y q i ey (state-tail gens s) in
       let k = decided-s .inside y i in
       let c′ = child-s-there (at childrenS y) (S ∷ q) k (c .1) s in
@@ -157,10 +157,10 @@ module _ {gens words : List Word} {count n : ℕ} {letters rests childrenR child
         })),
       )
   at-nodes (WordTight.E w m q s t e) x y h i ex ey =
-      let b = begins-s (d .tree) x (inside h) w ex in
+      let b = begins-s (d .planted .tree) x (inside h) w ex in
       let (k, f) = state-node (S ∷ m) s in
       let v = node-number words (S ∷ m) in
-      let b′ = begins-s (d .tree) v (inside k) m f in
+      let b′ = begins-s (d .planted .tree) v (inside k) m f in
       let c = child-s-there y q i ey t in
       let first = entry-of (at rests x) v w (S ∷ m) (rest-node x (b .0) h) k (b .2) f in
       let second = entry-of (at rests v) (at childrenS y) m (S ∷ q) (rest-node v (b′ .0) k) (decided-s .inside y i) (b′ .2) (c .1) in (
@@ -195,6 +195,6 @@ module _ {gens words : List Word} {count n : ℕ} {letters rests childrenR child
   decided-tight x y h i l =
       let same = entry-of x y (wordAt words x) (wordAt words y) h i refl refl in
       let tight =
-      exact-tight gens n T (all-reduced gens (d .normal)) exact (wordAt words x) (wordAt words y) (d .tree .state x (inside h)) (d .tree .state y (inside i))
+      exact-tight gens n T (all-reduced gens (d .planted .normal)) exact (wordAt words x) (wordAt words y) (d .planted .tree .state x (inside h)) (d .planted .tree .state y (inside i))
       (omega (arith, same, l)) in
       at-nodes tight x y h i refl refl

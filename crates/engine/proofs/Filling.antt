@@ -127,14 +127,14 @@ module _ {count n : ℕ} {childrenR childrenS target table before : List ℕ} (f
     filling-rest = same-rest before rows (suc i * count) (f .long ∙ r .long) (λ p h. f .rest p h ∙ r .old p (omega arith))
 
     -- the next row can be made
-    module _ (few : count ≤ 321) (h : i < length target) where
+    module _ (h : i < length target) where
       rows-room : suc (suc i) * count ≤ length rows
       rows-room = omega (arith, mul-le-mul-right count (suc-le-suc h), fits .rows-room, f .long, r .long)
 
       pub fits-r : RowFits count n childrenR table i rows
       fits-r =
           record {
-            few = few;
+            few = fits .few;
             bound = fits .bound;
             children-room = fits .room-r;
             inside = fits .inside-r;
@@ -147,7 +147,7 @@ module _ {count n : ℕ} {childrenR childrenS target table before : List ℕ} (f
       pub fits-s : RowFits count n childrenS table i rows
       fits-s =
           record {
-            few = few;
+            few = fits .few;
             bound = fits .bound;
             children-room = fits .room-s;
             inside = fits .inside-s;

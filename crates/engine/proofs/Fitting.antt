@@ -22,15 +22,14 @@ module _ (gens words : List Word) (count n : ℕ) (table : List ℕ) (some : 1 �
 pub path-fits : (gens words : List Word) (count n : ℕ) (letters rests childrenR childrenS wholes target table rows : List ℕ)
     → Tree gens words letters rests childrenR childrenS wholes → length words ≡ count
     → ((p q : ℕ) → p < count → q < count → LeastLead gens n (wordAt words p) (wordAt words q) (at table (place count p q)))
-    → count ≤ 65535 → n ≤ 1000 → length target ≤ 4096 → count * count ≤ length table → suc (length target) * count ≤ length rows
+    → count ≤ 321 → n ≤ 1000 → count * count ≤ length table → suc (length target) * count ≤ length rows
     → PathFits count n childrenR childrenS target table rows
-path-fits gens words count n letters rests childrenR childrenS wholes target table rows tree size exact few bound short table-room rows-room =
+path-fits gens words count n letters rests childrenR childrenS wholes target table rows tree size exact few bound table-room rows-room =
     let shape = subst (λ (k : ℕ). Shape k letters rests childrenR childrenS wholes) size (tree .shape) in
     record {
       some = shape .some;
       few = few;
       bound = bound;
-      short = short;
       room-r = shape .room-r;
       room-s = shape .room-s;
       inside-r = shape .child-r-inside;

@@ -15,3 +15,8 @@ mod Walks
 mod Descending
 mod Deciding
 mod Spelled
+mod Sizes
+mod Verdicts
+mod LastRow
+mod Planting
+mod GivenList

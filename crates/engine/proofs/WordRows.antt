@@ -43,6 +43,10 @@ module _ (words : List Word) (count n : ℕ) (childrenR childrenS target table r
 
 module _ (gens words : List Word) (count n : ℕ) (letters rests childrenR childrenS wholes table : List ℕ)
     (tree : Tree gens words letters rests childrenR childrenS wholes) (size : length words ≡ count) where
+  -- the empty word is node 0
+  pub root-number : node-number words [] ≡ 0
+  root-number = ap (node-number words) (sym (tree .root)) ∙ node-number-at tree 0 (tree .shape .some)
+
   -- a state's number is a node's
   number-inside : (q : Word) → State gens q → node-number words q < count
   number-inside q s = omega (arith, state-number tree q s .0)
@@ -128,9 +132,6 @@ module _ (gens words : List Word) (count n : ℕ) (letters rests childrenR child
       where
         here : {i : ℕ} → i < length (word target) → i < length target
         here h = omega (arith, length-map target letter)
-
-        root-number : node-number words [] ≡ 0
-        root-number = ap (node-number words) (sym (tree .root)) ∙ node-number-at tree 0 (tree .shape .some)
 
         at-least : (i : ℕ) (q : Word) {x : ℕ}
             → (x ≡ entry i (node-number words q)) ⊎ ((v : ℕ) × (v < count) × (x ≡ entry i v + at table (place count v (node-number words q))))

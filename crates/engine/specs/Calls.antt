@@ -3,13 +3,14 @@ use mathlib.Core.Path.{_≡_}
 use mathlib.Core.List.{List}
 use Prim.Native.Nat.{ℕ, _*_}
 use lib.ListN.{length, take, drop, replicate}
-use Rattle.words.specs.Word.{Word}
+use Rattle.words.specs.Word.{Word, nf}
 use Rattle.words.specs.Bytes.{word}
 use Rattle.words.specs.Slices.{overwritten}
 use Rattle.words.specs.declared.Asked.{Asked}
 use Rattle.words.specs.declared.Asked.the-variants.{Passed, Refused}
 use Rattle.products.specs.Product.{generators, NoneRight, MemberRight}
-use Rattle.engine.specs.Questions.{side, ofVerdict}
+use Rattle.lists.specs.NormalList.{total}
+use Rattle.engine.specs.Questions.{side, ofProduct}
 use Rattle.engine.specs.declared.Verdict.{Verdict}
 use Rattle.engine.specs.declared.Verdict.the-variants.{Member, None, Refused as Verdict·Refused}
 
@@ -31,15 +32,21 @@ VerdictRight gens target n (Member count) before after =
 VerdictRight gens target n None before after = NoneRight gens target n × (after ≡ before)
 VerdictRight gens target n (Verdict·Refused refusal) before after = ⊥
 
--- By what the questions say: a refusal changes nothing lent; a verdict is right, and leaves both tables zeroed.
-abbrev pub Judged : Asked → List Word → Word → ℕ → Verdict → Lent → Lent → Type 0
-Judged (Refused refusal) gens target n r before after = (r ≡ Verdict·Refused refusal) × (after ≡ before)
-Judged Passed gens target n r before after =
+-- By what the questions say: a refusal changes nothing lent; a verdict is right, and leaves both tables zeroed for the side q.
+abbrev pub Judged : Asked → ℕ → List Word → Word → ℕ → Verdict → Lent → Lent → Type 0
+Judged (Refused refusal) q gens target n r before after = (r ≡ Verdict·Refused refusal) × (after ≡ before)
+Judged Passed q gens target n r before after =
     VerdictRight gens target n r (before .witness) (after .witness)
-    × (after .first ≡ zeroed (side gens target) (before .first))
-    × (after .second ≡ zeroed (side gens target) (before .second))
+    × (after .first ≡ zeroed q (before .first))
+    × (after .second ≡ zeroed q (before .second))
 
+-- The verdict on a target, whose letters are asked for where it is given by letters.
+abbrev pub JudgesProduct : List ℕ → List ℕ → List ℕ → Word → ℕ → Verdict → Lent → Lent → Type 0
+JudgesProduct bytes ends letters target n r before after =
+    Judged (ofProduct bytes ends letters target n (length (before .first)) (length (before .second)) (length (before .witness)))
+    (side (total (generators bytes ends)) (length (nf target)))
+    (generators bytes ends) target n r before after
+
+-- The verdict on a target that is given by its letters.
 abbrev pub Judges : List ℕ → List ℕ → List ℕ → ℕ → Verdict → Lent → Lent → Type 0
-Judges bytes ends target n r before after =
-    Judged (ofVerdict bytes ends target n (length (before .first)) (length (before .second)) (length (before .witness)))
-    (generators bytes ends) (word target) n r before after
+Judges bytes ends target n r before after = JudgesProduct bytes ends target (word target) n r before after

@@ -6,3 +6,4 @@ pub mod Witness
 pub mod Tight
 pub mod Walk
 pub mod Descent
+pub mod Judging

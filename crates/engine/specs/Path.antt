@@ -31,9 +31,8 @@ module _ (count n : ℕ) (childrenR childrenS target table rows : List ℕ) wher
 -- What makes filling the rows safe.
 pub record PathFits (count n : ℕ) (childrenR childrenS target table rows : List ℕ) : Type 0 where
   pub some : 1 ≤ count
-  pub few : count ≤ 65535
+  pub few : count ≤ 321
   pub bound : n ≤ 1000
-  pub short : length target ≤ 4096
   pub room-r : count ≤ length childrenR
   pub room-s : count ≤ length childrenS
   pub inside-r : (p : ℕ) → p < count → at childrenR p < count

@@ -12,23 +12,29 @@ use Rattle.trees.specs.Tree.{at, wordAt, Tree}
 use Rattle.tables.specs.Rules.{place}
 use Rattle.engine.specs.Path.{PathRows}
 
--- All that is known when the witness is walked: a tree of reduced generators, its exact table, and the rows of a normal target that is not
--- empty, whose last entry is within the bound.
-pub record Decided (gens words : List Word) (count n : ℕ) (letters rests childrenR childrenS wholes target table rows : List ℕ) : Type 0 where
+-- A tree of reduced generators, a normal target that is not empty, and a bound.
+pub record Planted (gens words : List Word) (count n : ℕ) (letters rests childrenR childrenS wholes target : List ℕ) : Type 0 where
   pub normal : AllNormal gens
   pub tree : Tree gens words letters rests childrenR childrenS wholes
   pub size : length words ≡ count
   pub few : count ≤ 321
   pub bound : n ≤ 1000
   pub numbers : length gens ≤ 64
-  pub exact : (p q : ℕ) → p < count → q < count → LeastLead gens n (wordAt words p) (wordAt words q) (at table (place count p q))
-  pub rows-right : PathRows count n childrenR childrenS target table rows (length target)
   pub target-normal : Normal (word target)
   pub target-some : word target ≢ []
   pub target-short : length target ≤ 80
+
+-- All that is known once the table and the rows are filled.
+pub record Decided (gens words : List Word) (count n : ℕ) (letters rests childrenR childrenS wholes target table rows : List ℕ) : Type 0 where
+  pub planted : Planted gens words count n letters rests childrenR childrenS wholes target
+  pub exact : (p q : ℕ) → p < count → q < count → LeastLead gens n (wordAt words p) (wordAt words q) (at table (place count p q))
+  pub rows-right : PathRows count n childrenR childrenS target table rows (length target)
   pub table-room : count * count ≤ length table
   pub rows-room : suc (length target) * count ≤ length rows
-  pub within : at rows (place count (length target) 0) ≤ n
+
+abbrev pub SomePlanted : ℕ → ℕ → List ℕ → List ℕ → List ℕ → List ℕ → List ℕ → List ℕ → Type 0
+SomePlanted count n letters rests childrenR childrenS wholes target =
+    (gens : List Word) × (words : List Word) × Planted gens words count n letters rests childrenR childrenS wholes target
 
 abbrev pub SomeDecided : ℕ → ℕ → List ℕ → List ℕ → List ℕ → List ℕ → List ℕ → List ℕ → List ℕ → List ℕ → Type 0
 SomeDecided count n letters rests childrenR childrenS wholes target table rows =

@@ -1,18 +1,43 @@
 // The bounded verdict: is the target a product of at most n generators?
 mod descent;
 mod entries;
+mod judging;
 mod path;
+mod questions;
 mod stack;
 mod tight;
 mod witness;
 mod zeroing;
 
+use words::Asked;
 use words::Factors;
 use words::Refusal;
+ghost use Rattle.engine.specs.Calls.{Judges};
 
 // The verdict: a member with the count of the factors that were written, none, or the refusal.
 pub enum Verdict {
     Member(Factors),
     None,
     Refused(Refusal),
+}
+
+// Is the target a product of at most n of the list's generators? A member's least series is written to the front of `witness`, as generator
+// numbers, and the count is how many they are. A refusal changes nothing; after a verdict the first q * q entries of both tables are 0.
+pub fn judge(
+    bytes: &[u8],
+    ends: &[u16],
+    target: &[u8],
+    n: Factors,
+    first: &mut [u16],
+    second: &mut [u16],
+    witness: &mut [u8],
+) -> Verdict
+    ensures { λ r. ⌜ Judges (now (bytes .entry)) (now (ends .entry)) (now (target .entry)) (n .0) r
+        (record { first = now (first .entry); second = now (second .entry); witness = now (witness .entry) })
+        (record { first = now (first .exit); second = now (second .exit); witness = now (witness .exit) }) ⌝ }
+{
+    match lists::of_list(bytes, ends, target) {
+        Asked::Refused(refusal) => Verdict::Refused(refusal),
+        Asked::Passed => judging::judge_list(bytes, ends, target, n, first, second, witness),
+    }
 }

@@ -1,5 +1,6 @@
 // The rows of a target: row i has, for each node q, the least number of factors that make the target's first i letters and then q's word,
 // or n + 1. Each row is made of the one before it and the finished table.
+use words::Factors;
 ghost use mathlib.Core.Path.{_≡_};
 ghost use Prim.Native.Nat.{ℕ, suc, min, _+_, _*_, _≤_, _<_};
 ghost use lib.Dec.{eqb};
@@ -29,26 +30,26 @@ fn least(a: u16, b: u16) -> u16
 }
 
 // The row's entry at v's child, or n + 1 where v has none.
-fn read_entry(row: &[u16], children: &[u16], n: u16, v: usize) -> u16
-    requires { ⌜ n ≤ 1000 ⌝ }
+fn read_entry(row: &[u16], children: &[u16], n: Factors, v: usize) -> u16
+    requires { ⌜ n .0 ≤ 1000 ⌝ }
     requires { ⌜ v < length (now children) ⌝ }
     requires { ⌜ at (now children) v < length (now row) ⌝ }
-    ensures { λ r. ⌜ r ≡ readAt n (now (children .entry)) (at (now (row .entry))) v ⌝ }
+    ensures { λ r. ⌜ r ≡ readAt (n .0) (now (children .entry)) (at (now (row .entry))) v ⌝ }
 {
     let child = children[v];
     if child == 0 {
-        return n + 1;
+        return n.0 + 1;
     }
     row[wide(child)]
 }
 
 // Reads a letter: what the next row begins with, at each node.
-fn read_row(row: &[u16], children: &[u16], n: u16, first: &mut [u16])
-    requires { ⌜ n ≤ 1000 ⌝ }
+fn read_row(row: &[u16], children: &[u16], n: Factors, first: &mut [u16])
+    requires { ⌜ n .0 ≤ 1000 ⌝ }
     requires { ⌜ length (now row) ≤ length (now children) ⌝ }
     requires { ⌜ length (now row) ≤ length (now first) ⌝ }
     requires { ⌜ ((p : ℕ) → p < length (now row) → at (now children) p < length (now row)) ⌝ }
-    ensures { λ _. ⌜ Rewritten (readAt n (now (children .entry)) (at (now (row .entry)))) (now (first .entry)) (now (first .exit)) (length (now (row .entry))) ⌝ }
+    ensures { λ _. ⌜ Rewritten (readAt (n .0) (now (children .entry)) (at (now (row .entry)))) (now (first .entry)) (now (first .exit)) (length (now (row .entry))) ⌝ }
 {
     let mut v = 0;
     while v < row.len() {
@@ -86,14 +87,14 @@ fn lower_row(row: &mut [u16], k: u16, from: &[u16])
 }
 
 // Rule F from v: what is read at v, and the table's entry from there. Where nothing is read at v no sum is below n + 1.
-fn lower_from(first: &[u16], n: u16, v: usize, table: &[u16], row: &mut [u16])
-    requires { ⌜ RoundFits n (now first) (now table) (length (now row)) ⌝ }
+fn lower_from(first: &[u16], n: Factors, v: usize, table: &[u16], row: &mut [u16])
+    requires { ⌜ RoundFits (n .0) (now first) (now table) (length (now row)) ⌝ }
     requires { ⌜ v < length (now row) ⌝ }
-    requires { ⌜ AtMost (n + 1) (now row) (length (now row)) ⌝ }
+    requires { ⌜ AtMost (n .0 + 1) (now row) (length (now row)) ⌝ }
     ensures { λ _. ⌜ Lowered (λ q. at (now (first .entry)) v + at (now (table .entry)) (place (length (now (row .entry))) v q)) (now (row .entry)) (now (row .exit)) ⌝ }
 {
     let k = first[v];
-    if n < k {
+    if n.0 < k {
         return;
     }
     let start = v * row.len();
@@ -102,8 +103,8 @@ fn lower_from(first: &[u16], n: u16, v: usize, table: &[u16], row: &mut [u16])
 }
 
 // One round of rule F over what is read.
-fn round(first: &[u16], n: u16, table: &[u16], row: &mut [u16])
-    requires { ⌜ RoundFits n (now first) (now table) (length (now row)) ⌝ }
+fn round(first: &[u16], n: Factors, table: &[u16], row: &mut [u16])
+    requires { ⌜ RoundFits (n .0) (now first) (now table) (length (now row)) ⌝ }
     ensures { λ _. ⌜ Round (now (first .entry)) (now (table .entry)) (length (now (row .entry))) (now (row .exit)) ⌝ }
 {
     copy_row(first, row.len(), row);
@@ -115,9 +116,9 @@ fn round(first: &[u16], n: u16, table: &[u16], row: &mut [u16])
 }
 
 // Makes row i + 1 of row i, with each node's child by the letter that is read.
-fn next_row(children: &[u16], count: usize, n: u16, table: &[u16], rows: &mut [u16], i: usize)
-    requires { ⌜ RowFits count n (now children) (now table) i (now rows) ⌝ }
-    ensures { λ _. ⌜ NextRow count n (now (children .entry)) (now (table .entry)) i (now (rows .entry)) (now (rows .exit)) ⌝ }
+fn next_row(children: &[u16], count: usize, n: Factors, table: &[u16], rows: &mut [u16], i: usize)
+    requires { ⌜ RowFits count (n .0) (now children) (now table) i (now rows) ⌝ }
+    ensures { λ _. ⌜ NextRow count (n .0) (now (children .entry)) (now (table .entry)) i (now (rows .entry)) (now (rows .exit)) ⌝ }
 {
     let mut first = [0u16; NODES];
     let start = i * count;
@@ -133,14 +134,14 @@ fn read_letter(
     children_r: &[u16],
     children_s: &[u16],
     count: usize,
-    n: u16,
+    n: Factors,
     table: &[u16],
     rows: &mut [u16],
     i: usize,
 )
-    requires { ⌜ RowFits count n (now «children_r») (now table) i (now rows) ⌝ }
-    requires { ⌜ RowFits count n (now «children_s») (now table) i (now rows) ⌝ }
-    ensures { λ _. ⌜ NextRow count n (pick (eqb letter 82) (now («children_r» .entry)) (now («children_s» .entry))) (now (table .entry)) i (now (rows .entry)) (now (rows .exit)) ⌝ }
+    requires { ⌜ RowFits count (n .0) (now «children_r») (now table) i (now rows) ⌝ }
+    requires { ⌜ RowFits count (n .0) (now «children_s») (now table) i (now rows) ⌝ }
+    ensures { λ _. ⌜ NextRow count (n .0) (pick (eqb letter 82) (now («children_r» .entry)) (now («children_s» .entry))) (now (table .entry)) i (now (rows .entry)) (now (rows .exit)) ⌝ }
 {
     if letter == 82 {
         next_row(children_r, count, n, table, rows, i);
@@ -155,13 +156,12 @@ pub(crate) fn path(
     count: usize,
     children_r: &[u16],
     children_s: &[u16],
-    n: u16,
+    n: Factors,
     table: &[u16],
     rows: &mut [u16],
 )
-    requires { ⌜ PathFits count n (now «children_r») (now «children_s») (now target) (now table) (now rows) ⌝ }
-    requires { ⌜ count ≤ 321 ⌝ }
-    ensures { λ _. ⌜ PathRows count n (now («children_r» .entry)) (now («children_s» .entry)) (now (target .entry)) (now (table .entry)) (now (rows .exit)) (length (now (target .entry))) ⌝ }
+    requires { ⌜ PathFits count (n .0) (now «children_r») (now «children_s») (now target) (now table) (now rows) ⌝ }
+    ensures { λ _. ⌜ PathRows count (n .0) (now («children_r» .entry)) (now («children_s» .entry)) (now (target .entry)) (now (table .entry)) (now (rows .exit)) (length (now (target .entry))) ⌝ }
     ensures { λ _. ⌜ drop (suc (length (now (target .entry))) * count) (now (rows .exit)) ≡ drop (suc (length (now (target .entry))) * count) (now (rows .entry)) ⌝ }
 {
     copy_row(table, count, rows);

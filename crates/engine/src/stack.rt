@@ -3,6 +3,7 @@
 use crate::entries::entry;
 use crate::tight;
 use crate::tight::Step;
+use words::Factors;
 ghost use mathlib.Core.Path.{_≡_};
 ghost use mathlib.Core.List.{[]};
 ghost use Prim.Native.Nat.{ℕ, _≤_, _<_};
@@ -108,13 +109,13 @@ pub(crate) fn write_pairs(
     ys: &mut [u16],
     height: usize,
     witness: &mut [u8],
-) -> usize
+) -> Factors
     requires { ⌜ ((n : ℕ) × Walkable count (now letters) (now rests) (now «children_r») (now «children_s») (now wholes) (now table) n
         × Standing count (now table) n (now xs) (now ys) (now witness) height 0) ⌝ }
     ensures { λ r. ⌜ Advance count (now (letters .entry)) (now (rests .entry)) (now («children_r» .entry)) (now («children_s» .entry))
         (now (wholes .entry)) (now (table .entry))
-        (stacked (now (xs .entry)) (now (ys .entry)) height) [] [] (take r (now (witness .exit))) ⌝ }
-    ensures { λ r. ⌜ Behind 0 r (now (witness .entry)) (now (witness .exit)) ⌝ }
+        (stacked (now (xs .entry)) (now (ys .entry)) height) [] [] (take (r .0) (now (witness .exit))) ⌝ }
+    ensures { λ r. ⌜ Behind 0 (r .0) (now (witness .entry)) (now (witness .exit)) ⌝ }
 {
     let mut top = Top { height, written: 0 };
     while 0 < top.height {
@@ -132,5 +133,5 @@ pub(crate) fn write_pairs(
             top,
         );
     }
-    top.written
+    Factors(top.written as u16)
 }

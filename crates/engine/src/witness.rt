@@ -2,6 +2,7 @@
 // to it. First along the rows, which leaves pairs of nodes on a stack, and then from pair to pair, until each is a generator.
 use crate::descent;
 use crate::stack;
+use words::Factors;
 ghost use mathlib.Core.List.{List};
 ghost use Prim.Native.Nat.{_≤_};
 ghost use lib.ListN.{length};
@@ -23,17 +24,18 @@ pub(crate) fn write_witness(
     children_r: &[u16],
     children_s: &[u16],
     wholes: &[u16],
-    n: u16,
+    n: Factors,
     table: &[u16],
     rows: &[u16],
     witness: &mut [u8],
-) -> usize
-    requires { ⌜ SomeDecided count n (now letters) (now rests) (now «children_r») (now «children_s») (now wholes) (now target) (now table) (now rows) ⌝ }
-    requires { ⌜ n ≤ length (now witness) ⌝ }
+) -> Factors
+    requires { ⌜ SomeDecided count (n .0) (now letters) (now rests) (now «children_r») (now «children_s») (now wholes) (now target) (now table) (now rows) ⌝ }
+    requires { ⌜ n .0 ≤ length (now witness) ⌝ }
+    requires { ⌜ at (now rows) (place count (length (now target)) 0) ≤ n .0 ⌝ }
     ensures { λ k. ⌜ ((gens words : List Word)
-        → Decided gens words count n (now (letters .entry)) (now (rests .entry)) (now («children_r» .entry)) (now («children_s» .entry)) (now (wholes .entry))
+        → Decided gens words count (n .0) (now (letters .entry)) (now (rests .entry)) (now («children_r» .entry)) (now («children_s» .entry)) (now (wholes .entry))
         (now (target .entry)) (now (table .entry)) (now (rows .entry))
-        → Spelled gens (word (now (target .entry))) k (at (now (rows .entry)) (place count (length (now (target .entry))) 0))
+        → Spelled gens (word (now (target .entry))) (k .0) (at (now (rows .entry)) (place count (length (now (target .entry))) 0))
         (now (witness .entry)) (now (witness .exit))) ⌝ }
 {
     let mut xs = [0u16; ROOM];

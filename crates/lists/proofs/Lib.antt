@@ -7,3 +7,4 @@ mod Behind
 mod Forms
 mod Answering
 pub mod NormalList
+pub mod ReducedList

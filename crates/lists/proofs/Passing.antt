@@ -1,17 +1,20 @@
 -- What it says that a list and a target have passed questions 7 to 10. Assumes nothing.
-use mathlib.Core.Path.{_≡_, sym, _∙_}
-use mathlib.Core.List.{List, [], _∷_, _++_}
+use mathlib.Core.Path.{_≡_, sym, subst, _∙_}
+use mathlib.Core.List.{List, [], _∷_, _++_, append-nil}
 use Prim.Native.Nat.{ℕ, _≤_}
+use native.Mathlib.Omega.{arith}
 use lib.Dec.{leb, eqb}
 use lib.ListN.{length}
-use borrow.Author.Tests.{leb-true, eqb-true}
-use Rattle.words.specs.Questions.{asks, firstNo, firstOther, question8, question10}
+use borrow.Author.Tests.{leb-true, le-leb, eqb-true}
+use Rattle.words.specs.Questions.{asks, firstNo, firstOther, question8, question10, ofLetters}
 use Rattle.words.specs.declared.Refusal.the-variants.{TooManyGenerators, TooManyLetters, EndsWrong, NotALetter}
 use Rattle.words.specs.declared.Asked.{Asked}
 use Rattle.words.specs.declared.Asked.the-variants.{Passed}
-use Rattle.words.proofs.Asking.{asks-passed, first-no-head, first-no-tail, first-no-one}
+use Rattle.words.proofs.Asking.{asks-yes, asks-passed, yes-first, first-no-head, first-no-tail, first-no-one}
 use Rattle.lists.specs.Questions.{question7, firstFall, lastEnd, question9, ofList}
-use Rattle.lists.specs.Reducing.{AllLetters}
+use Rattle.lists.specs.Reducing.{AllLetters, Checked}
+use Rattle.lists.proofs.FirstOthers.{all-letters-front, all-letters-behind}
+use Rattle.lists.proofs.Refusing.{ends-right, by-letters}
 
 pub record ListPassed (bytes ends target : List ℕ) : Type 0 where
   pub few : length ends ≤ 64
@@ -45,3 +48,19 @@ list-passed bytes ends target e =
           leb-true (length (bytes ++ target)) (firstOther (bytes ++ target))
           (asks-passed (leb (length (bytes ++ target)) (firstOther (bytes ++ target))) (NotALetter (firstOther (bytes ++ target))) (sym (first-no-one (question10 (bytes ++ target))) ∙ e10));
     }
+
+-- what has passed together has passed alone
+module _ (bytes ends target : List ℕ) (passed : ofList bytes ends target ≡ Passed) where
+  pub list-alone : Checked bytes ends
+  list-alone =
+      let p = list-passed bytes ends target passed in
+      let letters = subst AllLetters (sym (append-nil bytes)) (all-letters-front bytes target (p .letters)) in
+      by-letters bytes ends [] (p .few) (p .short) (omega arith) (ends-right ends (length bytes) (p .none-falls) (p .last))
+      ∙ asks-yes (leb (length (bytes ++ [])) (firstOther (bytes ++ []))) (NotALetter (firstOther (bytes ++ []))) (le-leb _ _ letters)
+
+  pub target-alone : ofLetters target ≡ Passed
+  target-alone =
+      let p = list-passed bytes ends target passed in
+      yes-first (leb (length target) 4096) TooManyLetters (question10 target ∷ []) (le-leb (length target) 4096 (p .target-short))
+      ∙ yes-first (leb (length target) (firstOther target)) (NotALetter (firstOther target)) []
+      (le-leb (length target) (firstOther target) (all-letters-behind bytes target (p .letters)))

@@ -22,6 +22,7 @@ use Rattle.words.specs.declared.Asked.the-variants.{Passed, Refused}
 use Rattle.words.specs.declared.Written.{Written}
 use Rattle.words.specs.declared.Written.the-variants.{Length}
 use Rattle.words.proofs.Asking.{asks-yes, asks-passed, first-no-head, first-no-tail, first-no-one}
+use Rattle.words.proofs.Answering.{passed-of-answer, take-overwritten}
 use Rattle.words.proofs.Bytes.{word-bytes, length-bytes}
 use Rattle.words.proofs.NormalForm.{nf-of-normal}
 use Rattle.unimodular.specs.Matrix.{Matrix, UpToSign, matrixOf, signed, NormalFormOf}
@@ -40,7 +41,7 @@ use Rattle.matrices.proofs.Range.{Small, small-of-passed, passed-of-sma
 use Rattle.matrices.proofs.Signs.{sign-of-signed}
 use Rattle.matrices.proofs.Forms.{form-short}
 use Rattle.matrices.proofs.Writing.{letters-and-room}
-use Rattle.matrices.proofs.Reduction.{passed-of-answer, take-overwritten, letters-passed}
+use Rattle.matrices.proofs.Reduction.{letters-passed}
 
 -- ---- a word, its matrix, and back
 

@@ -3,23 +3,20 @@
 --     rows-sound                               each entry up to n is the number of factors of a series that makes the entry's word
 --     verdict-none, verdict-member             what the last row's entry at nothing says of the target
 --     verdict-empty                            the empty product reaches a target that equals nothing
---     given-none, given-member, given-empty    the same of the list and the target as they are given, reduced or not
--- Assumes that the generators and the target are reduced, where nothing else is said.
+-- Assumes that the generators and the target are reduced.
 use mathlib.Core.Path.{_≡_, refl, sym}
 use mathlib.Core.Logic.{_≢_, _⊎_, inl, inr}
-use mathlib.Core.List.{List, [], _∷_, _++_, map, nil≢cons, append-ne-nil-of-right-ne-nil}
+use mathlib.Core.List.{List, [], _∷_, _++_, nil≢cons, append-ne-nil-of-right-ne-nil}
 use Prim.Native.Nat.{ℕ, zero, suc, _+_, _≤_, _<_}
 use native.Mathlib.Omega.{arith}
 use lib.ListN.{length, take, getD}
-use Rattle.words.specs.Word.{Letter, R, Word, Equal, back, then, nf}
+use Rattle.words.specs.Word.{Letter, R, Word, Equal}
 use Rattle.words.proofs.Reduced.{Reduced}
-use Rattle.words.proofs.NormalForm.{equal-path, equal-nf, nf-reduced}
 use Rattle.products.specs.Product.{Series, letters, Reaches, measure, Rival, NoneRight, MemberRight}
 use Rattle.products.proofs.States.{State, nothing, series-append, state-tail}
 use Rattle.products.proofs.OneStep.{AllReduced}
 use Rattle.products.proofs.FirstLetter.{equal-reduced}
 use Rattle.products.proofs.Rows.{RowsClosed, read-sound, chain-sound, rows-least}
-use Rattle.products.proofs.Reducing.{reduced-all, none-reduced, member-reduced}
 use Rattle.products.proofs.Rivals.{rival-of}
 use Rattle.products.proofs.Exact.{Exact, measure-append, measure-factor, exact-closed}
 
@@ -149,19 +146,3 @@ verdict-empty gens target e n =
       counts = refl;
       least = λ r k f. omega arith;
     }
-
--- The list and the target as they are given. The table and the rows are about the reduced ones.
-module _ (gens : List Word) (target : Word) (n : ℕ) where
-  pub given-empty : nf target ≡ [] → MemberRight gens target n [] 0
-  given-empty e = verdict-empty gens target (back (then (equal-nf target) (equal-path e))) n
-
-  module _ (T : Word → Word → ℕ) (Row : ℕ → Word → ℕ) (exact : Exact (map nf gens) n T) (rows : RowsClosed (map nf gens) n T (nf target) Row)
-      (some : nf target ≢ []) where
-    pub given-none : n < Row (length (nf target)) [] → NoneRight gens target n
-    given-none h = none-reduced gens target n .0 (verdict-none (map nf gens) n T (nf target) Row (reduced-all gens) exact rows (nf-reduced target) some h)
-
-    pub given-member : (factors : List ℕ) → Series (map nf gens) factors → Reaches (map nf gens) factors (nf target)
-        → measure factors ≡ Row (length (nf target)) [] → Row (length (nf target)) [] ≤ n → MemberRight gens target n factors (length factors)
-    given-member factors series reaches count h =
-        member-reduced gens target n factors (length factors) .0
-        (verdict-member (map nf gens) n T (nf target) Row (reduced-all gens) exact rows (nf-reduced target) some factors series reaches count h)

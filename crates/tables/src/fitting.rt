@@ -1,5 +1,6 @@
 // Whether the inputs fit, and whether the children agree with the letters and rests: tests in linear time.
 use crate::nodes::node;
+use words::Factors;
 ghost use Prim.Native.Nat.{_≤_, _<_};
 ghost use lib.ListN.{length};
 ghost use Rattle.trees.specs.Tree.{Shape};
@@ -43,10 +44,10 @@ fn has_room(
     rests: usize,
     children_r: usize,
     children_s: usize,
-    n: u16,
+    n: Factors,
     table: usize,
 ) -> bool
-    ensures { λ r. ⌜ Tells r (Room width letters rests «children_r» «children_s» n table) ⌝ }
+    ensures { λ r. ⌜ Tells r (Room width letters rests «children_r» «children_s» (n .0) table) ⌝ }
 {
     if width < 1 {
         return false;
@@ -66,7 +67,7 @@ fn has_room(
     if children_s < width {
         return false;
     }
-    if 1000 < n {
+    if 1000 < n.0 {
         return false;
     }
     if table < width * width {
@@ -108,10 +109,10 @@ pub(crate) fn fits(
     children_r: &[u16],
     children_s: &[u16],
     wholes: &[u16],
-    n: u16,
+    n: Factors,
     table: &[u16],
 ) -> bool
-    ensures { λ r. ⌜ Tells r (Fits width (now (letters .entry)) (now (rests .entry)) (now («children_r» .entry)) (now («children_s» .entry)) (now (wholes .entry)) n (now (table .entry))) ⌝ }
+    ensures { λ r. ⌜ Tells r (Fits width (now (letters .entry)) (now (rests .entry)) (now («children_r» .entry)) (now («children_s» .entry)) (now (wholes .entry)) (n .0) (now (table .entry))) ⌝ }
 {
     if has_room(
         width,

@@ -8,6 +8,7 @@ mod rules;
 use crate::fitting::fits;
 use crate::fitting::linked;
 use crate::passes::fill_levels;
+use words::Factors;
 ghost use Rattle.tables.specs.Filling.{Fills};
 
 // Fills the first count * count entries of the table for the tree of `count` nodes in the five slices, up to the bound n. Where the
@@ -20,10 +21,10 @@ pub fn fill(
     children_r: &[u16],
     children_s: &[u16],
     wholes: &[u16],
-    n: u16,
+    n: Factors,
     table: &mut [u16],
 ) -> bool
-    ensures { λ r. ⌜ Fills count (now (letters .entry)) (now (rests .entry)) (now («children_r» .entry)) (now («children_s» .entry)) (now (wholes .entry)) n (now (table .entry)) r (now (table .exit)) ⌝ }
+    ensures { λ r. ⌜ Fills count (now (letters .entry)) (now (rests .entry)) (now («children_r» .entry)) (now («children_s» .entry)) (now (wholes .entry)) (n .0) (now (table .entry)) r (now (table .exit)) ⌝ }
 {
     if fits(
         count,

@@ -6,6 +6,7 @@ use crate::nodes::next_pair;
 use crate::nodes::node;
 use crate::relaxing::relax;
 use crate::rules::relax_pair;
+use words::Factors;
 ghost use mathlib.Core.Path.{_≡_};
 ghost use Prim.Native.Nat.{_+_, _*_, _≤_, _<_};
 ghost use lib.ListN.{length, replicate};
@@ -95,12 +96,12 @@ fn lesser_above(entry: u16, k: u16, least: u16) -> u16
 }
 
 // The level after k: the least entry above it, or n + 1.
-fn level_after(table: &[u16], k: u16, n: u16) -> u16
-    requires { ⌜ k ≤ n ⌝ }
-    requires { ⌜ n ≤ 1000 ⌝ }
-    ensures { λ r. ⌜ NextLevel n (now (table .entry)) k r ⌝ }
+fn level_after(table: &[u16], k: u16, n: Factors) -> u16
+    requires { ⌜ k ≤ n .0 ⌝ }
+    requires { ⌜ n .0 ≤ 1000 ⌝ }
+    ensures { λ r. ⌜ NextLevel (n .0) (now (table .entry)) k r ⌝ }
 {
-    let mut least = n + 1;
+    let mut least = n.0 + 1;
     let mut i = 0;
     while i < table.len() {
         least = lesser_above(table[i], k, least);
@@ -143,20 +144,20 @@ pub(crate) fn fill_levels(
     children_r: &[u16],
     children_s: &[u16],
     wholes: &[u16],
-    n: u16,
+    n: Factors,
 )
     requires { ⌜ length (now table) ≡ width * width ⌝ }
     requires { ⌜ 1 ≤ width ⌝ }
     requires { ⌜ width ≤ 65535 ⌝ }
-    requires { ⌜ n ≤ 1000 ⌝ }
+    requires { ⌜ n .0 ≤ 1000 ⌝ }
     requires { ⌜ Linked width (now letters) (now rests) (now «children_r») (now «children_s») ⌝ }
     requires { ⌜ AllBelow (now wholes) (length (now wholes)) width ⌝ }
-    ensures { λ _. ⌜ Full width (now (letters .entry)) (now (rests .entry)) (now (wholes .entry)) n (now (table .exit)) ⌝ }
+    ensures { λ _. ⌜ Full width (now (letters .entry)) (now (rests .entry)) (now (wholes .entry)) (n .0) (now (table .exit)) ⌝ }
 {
-    clear(table, n + 1);
+    clear(table, n.0 + 1);
     start(table, width, wholes);
     let mut k = 1;
-    while k <= n {
+    while k <= n.0 {
         pass(table, width, letters, rests, children_r, children_s, k);
         k = level_after(table, k, n);
     }

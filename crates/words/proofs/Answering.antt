@@ -1,21 +1,27 @@
--- What a caller of reduction or inversion learns where the questions are answered yes. Assumes nothing.
-use mathlib.Core.Path.{_≡_, ap, _∙_}
+-- What a caller of reduction or inversion learns from its answer: where the questions are answered yes, and back from the answer to the questions.
+-- Assumes nothing.
+use mathlib.Core.Path.{_≡_, refl, sym, ap, _∙_}
 use mathlib.Core.List.{List, [], _∷_}
 use Prim.Native.Nat.{ℕ, _*_, _≤_}
+use native.Mathlib.Omega.{arith}
 use lib.Dec.{leb}
-use lib.ListN.{length}
+use lib.ListN.{length, take, drop}
+use lib.Seq.{take-at}
 use borrow.Author.Tests.{le-leb}
-use Rattle.words.specs.Word.{Word}
+use Rattle.words.specs.Word.{Word, nf}
 use Rattle.words.specs.Bytes.{word, bytes}
-use Rattle.words.specs.Questions.{firstOther, question10, question14, ofWord}
+use Rattle.words.specs.Questions.{firstOther, question10, question14, ofLetters, ofWord}
 use Rattle.words.specs.Slices.{overwritten, written}
 use Rattle.words.specs.Calls.{lengthOr, Writes}
+use Rattle.words.specs.declared.Letters.{Letters}
+use Rattle.words.specs.declared.Refusal.{Refusal}
 use Rattle.words.specs.declared.Refusal.the-variants.{TooManyLetters, NotALetter, OutputTooShort}
 use Rattle.words.specs.declared.Asked.{Asked}
-use Rattle.words.specs.declared.Asked.the-variants.{Passed}
+use Rattle.words.specs.declared.Asked.the-variants.{Passed, Refused}
 use Rattle.words.specs.declared.Written.{Written}
-use Rattle.words.specs.declared.Written.the-variants.{Length}
-use Rattle.words.proofs.Asking.{yes-first}
+use Rattle.words.specs.declared.Written.the-variants.{Length, Refused as Written·Refused}
+use Rattle.words.proofs.Asking.{asks-yes, yes-first, of-word-room, of-word-refused, of-letters-short}
+use Rattle.words.proofs.Bytes.{length-bytes}
 
 pub of-word-passes : (w : List ℕ) (needed room : ℕ) → length w ≤ 4096 → length w ≤ firstOther w → needed ≤ room → ofWord w needed room ≡ Passed
 of-word-passes w needed room short letters enough =
@@ -30,3 +36,50 @@ module _ (f : Word → Word) (k : ℕ) (w before : List ℕ) (r : Written) (afte
 
   pub writes-front : after ≡ overwritten (bytes (f (word w))) before
   writes-front = writes .slice ∙ ap (λ (a : Asked). written a (bytes (f (word w))) before) passed
+
+-- ---- the answer of a call, back to its questions
+
+pub refused-of-answer : (a : Asked) (n : ℕ) {refusal : Refusal} → lengthOr a n ≡ Written·Refused refusal → a ≡ Refused refusal
+refused-of-answer Passed n e = let z : _≡_ {A = ℕ} 0 1 = cc in absurd (omega arith)
+refused-of-answer (Refused other) n e = cc
+
+pub passed-of-answer : (a : Asked) (n : ℕ) {l : Letters} → lengthOr a n ≡ Length l → (a ≡ Passed) × (l .0 ≡ n)
+passed-of-answer Passed n {l} e = (refl, let k : l ≡ record { 0 = n } = cc in ap (λ (x : Letters). x .0) k)
+passed-of-answer (Refused other) n e = let z : _≡_ {A = ℕ} 0 1 = cc in absurd (omega arith)
+
+-- a slice whose front is the new word
+pub take-overwritten : (new old : List ℕ) (n : ℕ) → n ≡ length new → take n (overwritten new old) ≡ new
+take-overwritten new old n e = take-at new (drop (length new) old) n (sym e)
+
+-- ---- a reduction into 4,096 bytes, which are room enough for a word that passes question 8
+
+room-enough : (w : List ℕ) → ofWord w (1 * length w) 4096 ≡ ofLetters w
+room-enough w = go (ofLetters w) refl
+  where
+    go : (a : Asked) → ofLetters w ≡ a → ofWord w (1 * length w) 4096 ≡ a
+    go Passed e =
+        of-word-room w (1 * length w) 4096 e
+        ∙ asks-yes _ OutputTooShort (le-leb (1 * length w) 4096 (omega (arith, of-letters-short w e)))
+    go (Refused refusal) e = of-word-refused w (1 * length w) 4096 e
+
+module _ (w before after : List ℕ) (r : Written) (h : Writes nf 1 w before r after) (room : length before ≡ 4096) where
+  questions : ofWord w (1 * length w) (length before) ≡ ofLetters w
+  questions = ap (ofWord w (1 * length w)) room ∙ room-enough w
+
+  pub reduce-refused : {refusal : Refusal} → r ≡ Written·Refused refusal → ofLetters w ≡ Refused refusal
+  reduce-refused e = sym questions ∙ refused-of-answer (ofWord w (1 * length w) (length before)) (length (nf (word w))) (sym (h .answer) ∙ e)
+
+  module _ {l : Letters} (e : r ≡ Length l) where
+    passed : (ofWord w (1 * length w) (length before) ≡ Passed) × (l .0 ≡ length (nf (word w)))
+    passed = passed-of-answer (ofWord w (1 * length w) (length before)) (length (nf (word w))) (sym (h .answer) ∙ e)
+
+    pub reduce-passed : ofLetters w ≡ Passed
+    reduce-passed = sym questions ∙ passed .0
+
+    pub reduce-length : l .0 ≡ length (nf (word w))
+    reduce-length = passed .1
+
+    pub reduce-form : take (l .0) after ≡ bytes (nf (word w))
+    reduce-form =
+        ap (take (l .0)) (h .slice ∙ ap (λ (a : Asked). written a (bytes (nf (word w))) before) (passed .0))
+        ∙ take-overwritten (bytes (nf (word w))) before (l .0) (reduce-length ∙ sym (length-bytes (nf (word w))))

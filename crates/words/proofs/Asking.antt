@@ -14,7 +14,7 @@ use Rattle.words.specs.declared.Refusal.the-variants.{TooManyLetters, Ou
 use Rattle.words.specs.declared.Asked.{Asked}
 use Rattle.words.specs.declared.Asked.the-variants.{Passed, Refused}
 
-passed-not-refused : {refusal : Refusal} → Path Asked (Refused refusal) Passed → ⊥
+pub passed-not-refused : {refusal : Refusal} → Path Asked (Refused refusal) Passed → ⊥
 passed-not-refused e = let z : _≡_ {A = ℕ} 0 1 = cc in omega arith
 
 pub asks-yes : (test : Bool) (refusal : Refusal) → test ≡ true → asks test refusal ≡ Passed

@@ -8,11 +8,12 @@ use Rattle.words.specs.Bytes.{letter, word as wordOf}
 use Rattle.words.specs.declared.Asked.{Asked}
 use Rattle.words.proofs.NormalForm.{nf-normal, nf-length}
 use Rattle.words.proofs.Asking.{of-letters-short}
+use Rattle.words.proofs.Answering.{reduce-refused, reduce-passed, reduce-length, reduce-form}
 use Rattle.words.proofs.Bytes.{word-bytes}
 use Rattle.unimodular.specs.Matrix.{Matrix, matrixOf, signed}
 use Rattle.matrices.specs.Calls.{matrixOr}
 use Rattle.matrices.specs.Forming.{ofForm}
-use Rattle.matrices.proofs.Reduction.{reduce-refused, reduce-passed, reduce-length, reduce-form, letters-refused, letters-passed, signed-nf}
+use Rattle.matrices.proofs.Reduction.{letters-refused, letters-passed, signed-nf}
 use native.Mathlib.Omega.{arith}
 use borrow.Author.Needs.{needs}
 use Rattle.matrices.proofs.word_to_matrix.Statement.{statement}

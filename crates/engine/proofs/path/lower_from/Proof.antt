@@ -19,27 +19,27 @@ shared-slice-read-k c = search needs
 
 returns : tie.Need-returns
 returns c =
-    let a = c .before .before .before .before .before .args in
+    let a = c .before .before .before .before .before .before .args in
     let w = length (a .row .now) in
     lowered-none (λ q. at (a .first .now) (a .v) + at (a .table .now) (place w (a .v) q)) (a .row .now) w
-    (λ p h. omega (arith, c .before .before .before .before .before .pre .1 .1 p h, c .if1 .taken))
+    (λ p h. omega (arith, c .before .before .before .before .before .before .pre .1 .1 p h, c .if1 .taken))
 
 mul-start : tie.Need-mul-start
 mul-start c =
-    let a = c .before .before .before .before .before .args in
-    let p = c .before .before .before .before .before .pre in
+    let a = c .before .before .before .before .before .before .args in
+    let p = c .before .before .before .before .before .before .pre in
     omega (arith, row-inside (a .v) _ (p .1 .0), p .0 .table-room)
 
 add-end : tie.Need-add-end
 add-end c =
-    let a = c .before .before .before .before .before .args in
-    let p = c .before .before .before .before .before .pre in
+    let a = c .before .before .before .before .before .before .args in
+    let p = c .before .before .before .before .before .before .pre in
     omega (arith, row-inside (a .v) _ (p .1 .0), p .0 .table-room)
 
 mul-lower-row : tie.Need-mul-lower-row
 mul-lower-row c =
-    let a = c .before .before .before .before .before .before .args in
-    let p = c .before .before .before .before .before .before .pre in
+    let a = c .before .before .before .before .before .before .before .args in
+    let p = c .before .before .before .before .before .before .before .pre in
     omega (arith, row-inside (a .v) _ (p .1 .0), p .0 .table-room)
 
 sub-lower-row : tie.Need-sub-lower-row
@@ -50,14 +50,14 @@ part-lower-row-start c = search needs
 
 part-lower-row-end : tie.Need-part-lower-row-end
 part-lower-row-end c =
-    let a = c .before .before .before .before .before .before .args in
-    let p = c .before .before .before .before .before .before .pre in
+    let a = c .before .before .before .before .before .before .before .args in
+    let p = c .before .before .before .before .before .before .before .pre in
     omega (arith, row-inside (a .v) _ (p .1 .0), p .0 .table-room)
 
 lower-row-requires : tie.Need-lower-row-requires
 lower-row-requires c κs =
-    let a = c .before .before .before .before .before .before .before .args in
-    let p = c .before .before .before .before .before .before .before .pre in
+    let a = c .before .before .before .before .before .before .before .before .args in
+    let p = c .before .before .before .before .before .before .before .before .pre in
     let w = length (a .row .now) in
     let inside = row-inside (a .v) w (p .1 .0) in
     let room = p .0 .table-room in (
@@ -73,7 +73,7 @@ same-length c = search needs
 
 returns-2 : tie.Need-returns-2
 returns-2 c =
-    let a = c .before .before .before .before .before .before .before .before .before .before .args in
+    let a = c .before .before .before .before .before .before .before .before .before .before .before .args in
     let w = length (a .row .now) in
     rewritten-as (c .before .before .lower-row .ensures)
     (λ q h. ap (λ (x : ℕ). min (at (a .row .now) q) (at (a .first .now) (a .v) + x)) (part-at (a .table .now) (a .v * w) w q (omega arith)))

@@ -65,17 +65,17 @@ round-requires c κs =
     let r = c .before .before .before .read-row in
     let read = part-length (a .rows .now) (a .i * a .count) (a .count) (omega arith) in
     let long = part-length (a .rows .now) (a .i * a .count + a .count) (a .count) (omega arith) in
-    let fits : RoundFits (a .n) (r .last .1 .1 .1 .0) (a .table .now) (a .count) =
+    let fits : RoundFits (a .n .0) (r .last .1 .1 .1 .0) (a .table .now) (a .count) =
     record {
       bound = p .bound;
       room = omega (arith, r .ensures .long, p .few);
       table-room = p .table-room;
       low =
-          first-low (a .count) (a .n) (a .i) (a .children .now) (a .table .now) (a .rows .now) (p .inside) room (r .last .1 .1 .1 .0)
+          first-low (a .count) (a .n .0) (a .i) (a .children .now) (a .table .now) (a .rows .now) (p .inside) room (r .last .1 .1 .1 .0)
           (λ v h. r .ensures .new v (omega arith)) (p .low);
       table-low = p .table-low;
     } in
-    subst (λ (w : ℕ). RoundFits (a .n) (r .last .1 .1 .1 .0) (a .table .now) w) (sym long) fits
+    subst (λ (w : ℕ). RoundFits (a .n .0) (r .last .1 .1 .1 .0) (a .table .now) w) (sym long) fits
 
 same-length : tie.Need-same-length
 same-length c = search needs
@@ -90,7 +90,7 @@ returns c =
     let first = r .last .1 .1 .1 .0 in
     let read = part-length (a .rows .now) (a .i * a .count) (a .count) (omega arith) in
     let long = part-length (a .rows .now) (a .i * a .count + a .count) (a .count) (omega arith) in
-    next-row (a .count) (a .n) (a .i) (a .children .now) (a .table .now) (a .rows .now) (p .inside) room first
+    next-row (a .count) (a .n .0) (a .i) (a .children .now) (a .table .now) (a .rows .now) (p .inside) room first
     (λ v h. r .ensures .new v (omega arith)) (s .last .1 .1 .1 .0) (s .kept .1 .1 .1 .0 ∙ long)
     (λ q h. s .ensures q (omega arith) ∙ ap (λ (w : ℕ). leastSum w (a .table .now) (at first) q w) long)
 

@@ -11,19 +11,19 @@ use Rattle.engine.proofs.path.path.Tie as tie
 
 abbrev Inv-loop : tie.InvT-loop
 Inv-loop target count children-r children-s n table rows₀ i₀ rows i =
-    (i ≤ length target) × Filling count n children-r children-s target table rows₀ rows i
+    (i ≤ length target) × Filling count (n .0) children-r children-s target table rows₀ rows i
 
 abbrev μ-loop : tie.MeasureT-loop
 μ-loop target count children-r children-s n table rows₀ i₀ rows i = length target - i
 
 copy-row-requires : tie.Need-copy-row-requires Inv-loop μ-loop
 copy-row-requires c κs =
-    let p = c .before .before .before .before .before .before .pre .0 in
+    let p = c .before .before .before .before .before .before .pre in
     (omega (arith, row-inside 0 _ (p .some), p .table-room), omega (arith, p .rows-room))
 
 loop-holds : tie.Need-loop-holds Inv-loop μ-loop
 loop-holds c =
-    let fits = c .before .before .before .before .before .before .before .before .before .pre .0 in
+    let fits = c .before .before .before .before .before .before .before .before .before .pre in
     (omega arith, filling-begins fits (c .before .before .copy-row .ensures))
 
 shared-slice-read-read-letter : tie.Need-shared-slice-read-read-letter Inv-loop μ-loop
@@ -35,7 +35,7 @@ read-letter-requires c κs =
     let r = c .before .before .before .before .before .before .copy-row .ensures in
     let f = c .before .before .before .loop .inv .1 in
     let here = c .before .before .loop-test .taken in
-    (fits-r (p .0) r f (p .1) here, fits-s (p .0) r f (p .1) here)
+    (fits-r p r f here, fits-s p r f here)
 
 add-i : tie.Need-add-i Inv-loop μ-loop
 add-i c = search needs
@@ -45,7 +45,7 @@ loop-less c = search needs
 
 loop-again : tie.Need-loop-again Inv-loop μ-loop
 loop-again c =
-    let fits = c .before .before .before .before .before .before .before .before .before .before .before .before .before .before .before .before .pre .0 in
+    let fits = c .before .before .before .before .before .before .before .before .before .before .before .before .before .before .before .before .pre in
     (omega arith, filling-more fits (c .before .before .before .before .before .before .loop .inv .1) (c .before .before .read-letter .ensures))
 
 same-length : tie.Need-same-length Inv-loop μ-loop
@@ -54,7 +54,7 @@ same-length c = c .before .loop .inv .1 .long ∙ c .before .before .before .bef
 returns : tie.Need-returns Inv-loop μ-loop
 returns c =
     let a = c .before .before .before .before .before .before .before .before .before .before .before .args in
-    let fits = c .before .before .before .before .before .before .before .before .before .before .before .pre .0 in
+    let fits = c .before .before .before .before .before .before .before .before .before .before .before .pre in
     let l = c .before .loop in
     let all : l .i ≡ length (a .target .now) = omega arith in
     let path = path-rows (l .inv .1) in

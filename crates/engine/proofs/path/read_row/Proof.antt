@@ -10,7 +10,7 @@ use Rattle.engine.proofs.path.read_row.Statement.{statement}
 use Rattle.engine.proofs.path.read_row.Tie as tie
 
 abbrev Inv-loop : tie.InvT-loop
-Inv-loop row children n first₀ v₀ first v = (v ≤ length row) × Rewritten (readAt n children (at row)) first₀ first v
+Inv-loop row children n first₀ v₀ first v = (v ≤ length row) × Rewritten (readAt (n .0) children (at row)) first₀ first v
 
 abbrev μ-loop : tie.MeasureT-loop
 μ-loop row children n first₀ v₀ first v = length row - v

@@ -30,7 +30,7 @@ lower-from-requires c κs =
     let p = c .before .before .before .before .before .before .before .before .before .before .pre in
     let r = c .before .before .before .before .before .copy-row in
     let long = l .inv .1 ∙ r .ensures .long in (
-      subst (λ (w : ℕ). RoundFits (a .n) (a .first .now) (a .table .now) w) (sym long) p,
+      subst (λ (w : ℕ). RoundFits (a .n .0) (a .first .now) (a .table .now) w) (sym long) p,
       (
         c .before .loop-test .taken,
         λ q h.

@@ -47,21 +47,30 @@ loop-again c =
       behind-then (v .4) (w .ensures .1 .1),
     )
 
+-- no more factors are written than the bound allows
+cast-t20 : tie.Need-cast-t20 Inv-loop μ-loop
+cast-t20 c =
+    let p = c .before .before .before .before .before .before .before .before .before .before .before .before .before .pre in
+    let l = c .before .before .before .loop in
+    let v = l .inv in
+    let s = standing-on {xs₁ = l .xs} {ys₁ = l .ys} {height₁ = l .top .height} (p .2) (v .0) (v .1) (v .2) (v .3) (v .4) in
+    omega (arith, s .owes, s .bound)
+
 same-length : tie.Need-same-length Inv-loop μ-loop
-same-length c = c .before .before .loop .inv .0
+same-length c = c .before .before .before .loop .inv .0
 
 same-length-2 : tie.Need-same-length-2 Inv-loop μ-loop
-same-length-2 c = c .before .before .loop .inv .1
+same-length-2 c = c .before .before .before .loop .inv .1
 
 same-length-3 : tie.Need-same-length-3 Inv-loop μ-loop
-same-length-3 c = c .before .before .loop .inv .2
+same-length-3 c = c .before .before .before .loop .inv .2
 
 returns : tie.Need-returns Inv-loop μ-loop
 returns c =
-    let l = c .before .before .loop in
-    (advance-done _ (l .xs) (l .ys) _ (l .top .height) (c .if1 .left) (l .inv .3), l .inv .4)
+    let l = c .before .before .before .loop in
+    (advance-done _ (l .xs) (l .ys) _ (l .top .height) (c .before .if1 .left) (l .inv .3), l .inv .4)
 
 pub write-pairs-spec : {M : Type 1} → statement M
 write-pairs-spec =
     tie.close
-    (tie.spec Inv-loop μ-loop loop-holds walk-once-requires loop-less loop-again same-length same-length-2 same-length-3 returns)
+    (tie.spec Inv-loop μ-loop loop-holds walk-once-requires loop-less loop-again cast-t20 same-length same-length-2 same-length-3 returns)

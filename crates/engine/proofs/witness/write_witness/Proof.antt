@@ -19,8 +19,8 @@ room-left c =
     let xs = e .last .1 .1 .1 .1 .1 .1 .0 in
     let ys = e .last .1 .1 .1 .1 .1 .1 .1 .0 in
     let h = e .result .height in
-    let d = c .before .before .before .before .before .before .before .before .before .before .before .before .pre .0 .2 in
-    let room = last-room d (e .result .node) (stacked xs ys h) (e .ensures) in
+    let pre = c .before .before .before .before .before .before .before .before .before .before .before .before .pre in
+    let room = last-room (pre .0 .2) (pre .1 .1) (e .result .node) (stacked xs ys h) (e .ensures) in
     let high = length-stacked xs ys h in
     (omega (arith, room, high, e .kept .1 .1 .1 .1 .1 .1 .0), omega (arith, room, high, e .kept .1 .1 .1 .1 .1 .1 .1 .0))
 
@@ -39,8 +39,8 @@ slice-aggregate-descend-2 c = search needs
 
 descend-requires : tie.Need-descend-requires
 descend-requires c κs =
-    let d = c .before .before .before .before .before .before .before .before .before .before .before .pre .0 .2 in
-    (descendable d, (omega arith, omega arith))
+    let pre = c .before .before .before .before .before .before .before .before .before .before .before .pre in
+    (descendable (pre .0 .2) (pre .1 .1), (omega arith, omega arith))
 
 slice-aggregate-put-pair : tie.Need-slice-aggregate-put-pair
 slice-aggregate-put-pair c = sym (c .before .before .before .descend .kept .1 .1 .1 .1 .1 .1 .0)
@@ -54,7 +54,7 @@ put-pair-requires c κs =
     let e = walked .descend in
     let room = room-left walked in
     let d = walked .before .before .before .before .before .before .before .before .before .before .before .before .pre .0 .2 in
-    (room .0, room .1, omega arith, omega (arith, e .ensures .node, d .few))
+    (room .0, room .1, omega arith, omega (arith, e .ensures .node, d .planted .few))
 
 slice-aggregate-write-pairs : tie.Need-slice-aggregate-write-pairs
 slice-aggregate-write-pairs c =
@@ -79,10 +79,10 @@ write-pairs-requires c κs =
     let e = walked .descend in
     let start = walked .before .before .before .before .before .before .before .before .before .before .before .before in
     let d = start .pre .0 .2 in (
-      start .args .n,
+      start .args .n .0,
       walkable d,
-      standing-start d (e .result .node) _ (e .ensures) (p .last .0) (p .last .1 .0) (start .args .witness .now) (e .result .height + 1)
-          (omega (arith, p .kept .0, e .kept .1 .1 .1 .1 .1 .1 .0)) (omega (arith, p .kept .1 .0, e .kept .1 .1 .1 .1 .1 .1 .1 .0)) (start .pre .1)
+      standing-start d (start .pre .1 .1) (e .result .node) _ (e .ensures) (p .last .0) (p .last .1 .0) (start .args .witness .now) (e .result .height + 1)
+          (omega (arith, p .kept .0, e .kept .1 .1 .1 .1 .1 .1 .0)) (omega (arith, p .kept .1 .0, e .kept .1 .1 .1 .1 .1 .1 .1 .0)) (start .pre .1 .0)
           (pushed walked _ _ (p .ensures .0) (p .ensures .1)),
     )
 
@@ -95,15 +95,16 @@ returns c =
     let w = c .before .before .before .before .write-pairs in
     let walked = c .before .before .before .before .before .before .before .before .before .before .before .before .before .before .before in
     let e = walked .descend in
-    let a = walked .before .before .before .before .before .before .before .before .before .before .before .before .args in
+    let start = walked .before .before .before .before .before .before .before .before .before .before .before .before in
+    let a = start .args in
     let factors = w .last .1 .1 .1 .1 .1 .1 .1 .1 .1 .1 .0 in
     let advance =
     subst
     (λ (pairs : List (ℕ × ℕ)).
     Advance (a .count) (a .letters .now) (a .rests .now) (a .children-r .now) (a .children-s .now) (a .wholes .now) (a .table .now)
-    pairs [] [] (take (w .result) factors))
+    pairs [] [] (take (w .result .0) factors))
     (pushed walked _ _ (p .ensures .0) (p .ensures .1)) (w .ensures .0) in
-    λ gens words decided. spelled decided (e .result .node) _ (e .ensures) (a .witness .now) factors (w .result) advance (w .ensures .1)
+    λ gens words decided. spelled decided (start .pre .1 .1) (e .result .node) _ (e .ensures) (a .witness .now) factors (w .result .0) advance (w .ensures .1)
 
 pub write-witness-spec : {M : Type 1} → statement M
 write-witness-spec =

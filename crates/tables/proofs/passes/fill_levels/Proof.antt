@@ -10,10 +10,10 @@ use Rattle.tables.proofs.passes.fill_levels.Tie as tie
 
 abbrev Inv-loop : tie.InvT-loop
 Inv-loop table₀ width letters rests children-r children-s wholes n k₀ table k =
-    (1 ≤ k) × (k ≤ n + 1) × Levelled width letters rests wholes n k table
+    (1 ≤ k) × (k ≤ n .0 + 1) × Levelled width letters rests wholes (n .0) k table
 
 abbrev μ-loop : tie.MeasureT-loop
-μ-loop table₀ width letters rests children-r children-s wholes n k₀ table k = n + 1 - k
+μ-loop table₀ width letters rests children-r children-s wholes n k₀ table k = n .0 + 1 - k
 
 add-clear : tie.Need-add-clear Inv-loop μ-loop
 add-clear c = search needs
@@ -24,69 +24,69 @@ clear-requires c κs = search needs
 start-requires : tie.Need-start-requires Inv-loop μ-loop
 start-requires c κs =
     let at-clear = c .before .before .before in
-    let start = at-clear .before .before .before .before .before .before .before .before in
+    let start = at-clear .before .before .before .before .before .before .before .before .before in
     let p = start .pre in (at-clear .clear .kept .0 ∙ p .0, (p .1 .0, p .1 .1 .1 .1 .1))
 
 loop-holds : tie.Need-loop-holds Inv-loop μ-loop
 loop-holds c =
     let at-start = c .before .before in
     let at-clear = at-start .before .before .before .before in
-    let start = at-clear .before .before .before .before .before .before .before .before in
+    let start = at-clear .before .before .before .before .before .before .before .before .before in
     let a = start .args in
     let p = start .pre in
-    let cleared = at-clear .clear .ensures ∙ ap (λ (m : ℕ). replicate m (a .n + 1)) (p .0) in (
+    let cleared = at-clear .clear .ensures ∙ ap (λ (m : ℕ). replicate m (a .n .0 + 1)) (p .0) in (
       omega arith,
       omega arith,
-      levelled-begins (a .width) (a .letters .now) (a .rests .now) (a .wholes .now) (p .1 .1 .1 .1 .0 .s .followed .rest-earlier) (a .n)
+      levelled-begins (a .width) (a .letters .now) (a .rests .now) (a .wholes .now) (p .1 .1 .1 .1 .0 .s .followed .rest-earlier) (a .n .0)
           (p .1 .0) (p .1 .1 .1 .1 .1) cleared (at-start .start .ensures),
     )
 
 pass-requires : tie.Need-pass-requires Inv-loop μ-loop
 pass-requires c κs =
-    let at-loop = c .before .before in
-    let start = at-loop .before .before .before .before .before .before .before .before .before .before .before .before .before .before .before in
+    let at-loop = c .before .before .before in
+    let start = at-loop .before .before .before .before .before .before .before .before .before .before .before .before .before .before .before .before in
     let p = start .pre in
     let l = at-loop .loop in
-    (ready (p .1 .1 .0) (p .1 .1 .1 .0) (l .inv .0) (c .before .loop-test .taken) (l .inv .2 .counts), (p .1 .1 .1 .1 .0, p .1 .0))
+    (ready (p .1 .1 .0) (p .1 .1 .1 .0) (l .inv .0) (c .before .if1 .taken) (l .inv .2 .counts), (p .1 .1 .1 .1 .0, p .1 .0))
 
 level-after-requires : tie.Need-level-after-requires Inv-loop μ-loop
 level-after-requires c κs =
-    let at-loop = c .before .before .before .before .before .before in
-    let start = at-loop .before .before .before .before .before .before .before .before .before .before .before .before .before .before .before in
+    let at-loop = c .before .before .before .before .before .before .before in
+    let start = at-loop .before .before .before .before .before .before .before .before .before .before .before .before .before .before .before .before in
     (omega arith, start .pre .1 .1 .1 .0)
 
 loop-less : tie.Need-loop-less Inv-loop μ-loop
 loop-less c =
-    let at-loop-test = c .before .before .before .before .before .before in
-    omega (arith, c .level-after .ensures .above, at-loop-test .loop-test .taken)
+    let at-if1 = c .before .before .before .before .before .before in
+    omega (arith, c .level-after .ensures .above, at-if1 .if1 .taken)
 
 loop-again : tie.Need-loop-again Inv-loop μ-loop
 loop-again c =
     let at-pass = c .before .before .before .before in
-    let at-loop-test = at-pass .before .before in
-    let at-loop = at-loop-test .before in
-    let start = at-loop .before .before .before .before .before .before .before .before .before .before .before .before .before .before .before in
+    let at-if1 = at-pass .before .before in
+    let at-loop = at-if1 .before .before in
+    let start = at-loop .before .before .before .before .before .before .before .before .before .before .before .before .before .before .before .before in
     let a = start .args in
     let p = start .pre in
     let l = at-loop .loop in
     let next = c .level-after .ensures in (
       omega (arith, next .above),
       next .bounded,
-      levelled-more (a .width) (a .letters .now) (a .rests .now) (a .wholes .now) (p .1 .1 .1 .1 .0 .s .followed .rest-earlier) (a .n)
-          (l .inv .0) (at-loop-test .loop-test .taken) (l .inv .2) (at-pass .pass .ensures) next,
+      levelled-more (a .width) (a .letters .now) (a .rests .now) (a .wholes .now) (p .1 .1 .1 .1 .0 .s .followed .rest-earlier) (a .n .0)
+          (l .inv .0) (at-if1 .if1 .taken) (l .inv .2) (at-pass .pass .ensures) next,
     )
 
 same-length : tie.Need-same-length Inv-loop μ-loop
 same-length c =
-    let start = c .before .before .before .before .before .before .before .before .before .before .before .before .before .before .before .before in
-    c .before .loop .inv .2 .counts .long ∙ sym (start .pre .0)
+    let start = c .before .before .before .before .before .before .before .before .before .before .before .before .before .before .before .before .before .before in
+    c .before .before .loop .inv .2 .counts .long ∙ sym (start .pre .0)
 
 returns : tie.Need-returns Inv-loop μ-loop
 returns c =
-    let start = c .before .before .before .before .before .before .before .before .before .before .before .before .before .before .before .before in
+    let start = c .before .before .before .before .before .before .before .before .before .before .before .before .before .before .before .before .before .before in
     let a = start .args in
-    levelled-full (a .width) (a .letters .now) (a .rests .now) (a .wholes .now) (start .pre .1 .1 .1 .1 .0 .s .followed .rest-earlier) (a .n)
-    (c .loop-test .left) (c .before .loop .inv .2)
+    levelled-full (a .width) (a .letters .now) (a .rests .now) (a .wholes .now) (start .pre .1 .1 .1 .1 .0 .s .followed .rest-earlier) (a .n .0)
+    (c .if1 .left) (c .before .before .loop .inv .2)
 
 pub fill-levels-spec : {M : Type 1} → statement M
 fill-levels-spec =

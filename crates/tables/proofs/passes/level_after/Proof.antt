@@ -9,11 +9,11 @@ use Rattle.tables.proofs.passes.level_after.Statement.{statement}
 use Rattle.tables.proofs.passes.level_after.Tie as tie
 
 abbrev Inv-loop : tie.InvT-loop
-Inv-loop table k n least₀ i₀ least i =
-    (i ≤ length table) × (k < least) × (least ≤ n + 1) × ((p : ℕ) → p < i → k < entry table p → least ≤ entry table p)
+Inv-loop table k least₀ i₀ least i =
+    (i ≤ length table) × (k < least) × (least ≤ least₀) × ((p : ℕ) → p < i → k < entry table p → least ≤ entry table p)
 
 abbrev μ-loop : tie.MeasureT-loop
-μ-loop table k n least₀ i₀ least i = length table - i
+μ-loop table k least₀ i₀ least i = length table - i
 
 add-least : tie.Need-add-least Inv-loop μ-loop
 add-least c = search needs

@@ -1,0 +1,475 @@
+//! The bounded verdict in plain Rust, by the same method as the proved one: the questions, the reduced list, the tree of suffixes, the table of
+//! pairs filled by levels, the target's rows, the witness walked along tight rules, and the zeroing. It proves nothing; it is what the
+//! benchmark measures against.
+
+const R: u8 = b'R';
+const S: u8 = b'S';
+
+const GENERATORS: usize = 64;
+const LIST_LETTERS: usize = 320;
+const FORM: usize = 80;
+const LETTERS: usize = 4096;
+const NODES: usize = LIST_LETTERS + 1;
+const LARGEST_BOUND: u16 = 1000;
+
+#[derive(Clone, Copy, Debug, PartialEq)]
+pub enum Verdict {
+    Member(u16),
+    None,
+    /// The question's number and its place.
+    Refused(u8, usize),
+}
+
+/// Writes the normal form to the front of `out`, and answers its length.
+fn reduce(word: &[u8], out: &mut [u8]) -> usize {
+    let mut len = 0;
+    for &letter in word {
+        if letter == R && len > 0 && out[len - 1] == R {
+            len -= 1;
+        } else if letter == S && len > 1 && out[len - 1] == S && out[len - 2] == S {
+            len -= 2;
+        } else {
+            out[len] = letter;
+            len += 1;
+        }
+    }
+    len
+}
+
+/// Questions 7 to 10.
+fn of_list(bytes: &[u8], ends: &[u16], target: &[u8]) -> Result<(), Verdict> {
+    if ends.len() > GENERATORS {
+        return Err(Verdict::Refused(7, 0));
+    }
+    if bytes.len() > LETTERS || target.len() > LETTERS {
+        return Err(Verdict::Refused(8, 0));
+    }
+    if let Some(i) = ends.windows(2).position(|pair| pair[1] < pair[0]) {
+        return Err(Verdict::Refused(9, i + 1));
+    }
+    if ends.last().map_or(0, |&end| end as usize) != bytes.len() {
+        return Err(Verdict::Refused(9, ends.len()));
+    }
+    let other = |&letter: &u8| letter != R && letter != S;
+    match bytes.iter().chain(target).position(other) {
+        Some(place) => Err(Verdict::Refused(10, place)),
+        None => Ok(()),
+    }
+}
+
+/// The generators reduced, one behind the other.
+struct List {
+    letters: [u8; LIST_LETTERS],
+    ends: [u16; GENERATORS],
+    len: usize,
+}
+
+/// Reduces the generators, which puts question 11.
+fn reduce_list(bytes: &[u8], ends: &[u16]) -> Result<List, Verdict> {
+    let mut list = List {
+        letters: [0; LIST_LETTERS],
+        ends: [0; GENERATORS],
+        len: 0,
+    };
+    let mut form = [0; LETTERS];
+    let mut from = 0;
+    for (i, &end) in ends.iter().enumerate() {
+        let len = reduce(&bytes[from..end as usize], &mut form);
+        if len > FORM || list.len + len > LIST_LETTERS {
+            return Err(Verdict::Refused(11, i));
+        }
+        list.letters[list.len..list.len + len].copy_from_slice(&form[..len]);
+        list.len += len;
+        list.ends[i] = list.len as u16;
+        from = end as usize;
+    }
+    Ok(list)
+}
+
+/// The tree of suffixes. Node 0 is the empty word; as a child, 0 means that there is none.
+struct Tree {
+    letters: [u8; NODES],
+    rests: [u16; NODES],
+    children_r: [u16; NODES],
+    children_s: [u16; NODES],
+    wholes: [u16; GENERATORS],
+    generators: usize,
+    count: usize,
+}
+
+impl Tree {
+    fn build(letters: &[u8], ends: &[u16]) -> Tree {
+        let mut tree = Tree {
+            letters: [0; NODES],
+            rests: [0; NODES],
+            children_r: [0; NODES],
+            children_s: [0; NODES],
+            wholes: [0; GENERATORS],
+            generators: ends.len(),
+            count: 1,
+        };
+        let mut from = 0;
+        for (i, &end) in ends.iter().enumerate() {
+            let mut node = 0;
+            for &letter in letters[from..end as usize].iter().rev() {
+                node = tree.child_made(node, letter);
+            }
+            tree.wholes[i] = node as u16;
+            from = end as usize;
+        }
+        tree
+    }
+
+    fn child_made(&mut self, node: usize, letter: u8) -> usize {
+        let children = if letter == R {
+            &mut self.children_r
+        } else {
+            &mut self.children_s
+        };
+        if children[node] == 0 {
+            children[node] = self.count as u16;
+            self.letters[self.count] = letter;
+            self.rests[self.count] = node as u16;
+            self.count += 1;
+        }
+        children[node] as usize
+    }
+
+    fn children(&self, letter: u8) -> &[u16; NODES] {
+        if letter == R {
+            &self.children_r
+        } else {
+            &self.children_s
+        }
+    }
+
+    fn child(&self, letter: u8, node: usize) -> Option<usize> {
+        match self.children(letter)[node] {
+            0 => None,
+            child => Some(child as usize),
+        }
+    }
+
+    /// The rest of the node's word, where it begins with the letter.
+    fn rest(&self, letter: u8, node: usize) -> Option<usize> {
+        (node != 0 && self.letters[node] == letter).then(|| self.rests[node] as usize)
+    }
+
+    fn wholes(&self) -> &[u16] {
+        &self.wholes[..self.generators]
+    }
+}
+
+fn lower(entry: &mut u16, value: u16) {
+    if value < *entry {
+        *entry = value;
+    }
+}
+
+/// Two different rows of the table, the first to be changed.
+fn two_rows(table: &mut [u16], width: usize, x: usize, y: usize) -> (&mut [u16], &[u16]) {
+    if x < y {
+        let (low, high) = table.split_at_mut(y * width);
+        (&mut low[x * width..(x + 1) * width], &high[..width])
+    } else {
+        let (low, high) = table.split_at_mut(x * width);
+        (&mut high[..width], &low[y * width..(y + 1) * width])
+    }
+}
+
+/// Relaxes the rules B to G in which the pair (x, y) is a premise; k is its entry. Inlined into `fill` its loops lose their registers, and the
+/// whole verdict takes up to a quarter longer.
+#[inline(never)]
+fn relax_pair(tree: &Tree, table: &mut [u16], x: usize, y: usize, k: u16) {
+    let width = tree.count;
+    // F, with the pair first and with the pair second
+    if x != y {
+        let (to, from) = two_rows(table, width, x, y);
+        for (to, &from) in to.iter_mut().zip(from) {
+            *to = (*to).min(k + from);
+        }
+        for row in table.chunks_exact_mut(width) {
+            let sum = k + row[x];
+            lower(&mut row[y], sum);
+        }
+    }
+    // B and G
+    if let Some(a) = tree.child(R, x) {
+        if let Some(b) = tree.rest(R, y) {
+            lower(&mut table[a * width + b], k);
+        }
+        if let Some(b) = tree.child(R, y) {
+            lower(&mut table[a * width + b], k);
+        }
+    }
+    // C, D, G and E
+    if let Some(a) = tree.child(S, x) {
+        if let Some(b) = tree.child(S, y) {
+            lower(&mut table[a * width + b], k);
+        }
+        if let Some(b) = tree.rest(S, y) {
+            if let Some(aa) = tree.child(S, a) {
+                lower(&mut table[aa * width + b], k);
+            }
+            if let Some(bb) = tree.rest(S, b) {
+                lower(&mut table[a * width + bb], k);
+            }
+            for v in 0..width {
+                if let Some(t) = tree.rest(S, v) {
+                    let sum = k + table[b * width + v];
+                    lower(&mut table[a * width + t], sum);
+                }
+            }
+            for v in 0..width {
+                if let Some(u) = tree.rest(S, v) {
+                    let sum = k + table[u * width + a];
+                    lower(&mut table[v * width + b], sum);
+                }
+            }
+        }
+    }
+}
+
+/// Fills the table of pairs, up to the bound.
+fn fill(tree: &Tree, n: u16, table: &mut [u16]) {
+    let width = tree.count;
+    table.fill(n + 1);
+    for &whole in tree.wholes() {
+        lower(&mut table[whole as usize], 1);
+    }
+    let mut k = 1;
+    while k <= n {
+        for x in 0..width {
+            for y in 0..width {
+                if table[x * width + y] == k {
+                    relax_pair(tree, table, x, y, k);
+                }
+            }
+        }
+        k = table.iter().fold(
+            n + 1,
+            |least, &entry| if entry > k { least.min(entry) } else { least },
+        );
+    }
+}
+
+/// Fills the rows of the target.
+fn path(target: &[u8], tree: &Tree, n: u16, table: &[u16], rows: &mut [u16]) {
+    let width = tree.count;
+    rows[..width].copy_from_slice(&table[..width]);
+    let mut first = [0; NODES];
+    for (i, &letter) in target.iter().enumerate() {
+        let (before, behind) = rows[i * width..].split_at_mut(width);
+        let row = &mut behind[..width];
+        for (v, &child) in tree.children(letter)[..width].iter().enumerate() {
+            first[v] = if child == 0 {
+                n + 1
+            } else {
+                before[child as usize]
+            };
+        }
+        row.copy_from_slice(&first[..width]);
+        for (&k, from) in first[..width].iter().zip(table.chunks_exact(width)) {
+            if k <= n {
+                for (to, &from) in row.iter_mut().zip(from) {
+                    *to = (*to).min(k + from);
+                }
+            }
+        }
+    }
+}
+
+/// The pairs that are still to be spelled.
+struct Stack {
+    pairs: [(u16, u16); LARGEST_BOUND as usize],
+    height: usize,
+}
+
+impl Stack {
+    fn push(&mut self, x: usize, y: usize) {
+        self.pairs[self.height] = (x as u16, y as u16);
+        self.height += 1;
+    }
+
+    fn pop(&mut self) -> Option<(usize, usize)> {
+        if self.height == 0 {
+            return None;
+        }
+        self.height -= 1;
+        let (x, y) = self.pairs[self.height];
+        Some((x as usize, y as usize))
+    }
+}
+
+/// Goes back along the rows, and pushes the pairs by which they are joined, the first on top.
+fn descend(target: &[u8], tree: &Tree, table: &[u16], rows: &[u16], stack: &mut Stack) {
+    let width = tree.count;
+    let mut q = 0;
+    for (i, &letter) in target.iter().enumerate().rev() {
+        let entry = rows[(i + 1) * width + q];
+        let read = |v: usize| tree.child(letter, v).map(|c| (c, rows[i * width + c]));
+        q = match read(q) {
+            Some((child, read)) if read == entry => child,
+            _ => {
+                let (v, child) = (0..width)
+                    .find_map(|v| match read(v) {
+                        Some((child, read)) if read + table[v * width + q] == entry => {
+                            Some((v, child))
+                        }
+                        _ => None,
+                    })
+                    .expect("each entry is attained");
+                stack.push(v, q);
+                child
+            }
+        };
+    }
+    stack.push(0, q);
+}
+
+/// A rule with one premise that is tight at (x, y): its premise.
+fn one_premise(tree: &Tree, table: &[u16], x: usize, y: usize) -> Option<(usize, usize)> {
+    let width = tree.count;
+    let k = table[x * width + y];
+    let same = |a: usize, b: usize| (table[a * width + b] == k).then_some((a, b));
+    if x == 0 {
+        return None;
+    }
+    let letter = tree.letters[x];
+    let a = tree.rests[x] as usize;
+    if let Some(premise) = tree.rest(letter, y).and_then(|b| same(a, b)) {
+        return Some(premise);
+    }
+    if letter == R {
+        return tree.child(R, y).and_then(|b| same(a, b));
+    }
+    let b = tree.child(S, y)?;
+    tree.rest(S, a)
+        .and_then(|a| same(a, b))
+        .or_else(|| tree.child(S, b).and_then(|b| same(a, b)))
+}
+
+/// Rule E, where it is tight at (x, y).
+fn triple(tree: &Tree, table: &[u16], x: usize, y: usize) -> Option<[(usize, usize); 2]> {
+    let width = tree.count;
+    let k = table[x * width + y];
+    let a = tree.rest(S, x)?;
+    let b = tree.child(S, y)?;
+    (0..width).find_map(|v| {
+        let w = tree.rest(S, v)?;
+        (table[a * width + v] + table[w * width + b] == k).then_some([(a, v), (w, b)])
+    })
+}
+
+/// Rule F, which is tight where no other rule is.
+fn between(width: usize, table: &[u16], x: usize, y: usize) -> usize {
+    let k = table[x * width + y];
+    (0..width)
+        .find(|v| table[x * width + v] + table[v * width + y] == k)
+        .expect("some rule is tight")
+}
+
+/// Writes the factors of a least series, and answers how many they are.
+fn write_witness(
+    target: &[u8],
+    tree: &Tree,
+    table: &[u16],
+    rows: &[u16],
+    witness: &mut [u8],
+) -> u16 {
+    let width = tree.count;
+    let mut stack = Stack {
+        pairs: [(0, 0); LARGEST_BOUND as usize],
+        height: 0,
+    };
+    descend(target, tree, table, rows, &mut stack);
+    let mut written = 0;
+    while let Some((x, y)) = stack.pop() {
+        let whole = || tree.wholes().iter().position(|&whole| whole as usize == y);
+        if let Some((a, b)) = one_premise(tree, table, x, y) {
+            stack.push(a, b);
+        } else if let (0, 1, Some(j)) = (x, table[x * width + y], whole()) {
+            witness[written] = j as u8;
+            written += 1;
+        } else if let Some([(a, v), (w, b)]) = triple(tree, table, x, y) {
+            stack.push(w, b);
+            stack.push(a, v);
+        } else {
+            let v = between(width, table, x, y);
+            stack.push(v, y);
+            stack.push(x, v);
+        }
+    }
+    written as u16
+}
+
+/// The verdict on a reduced target that is not empty, by a reduced list.
+fn search(
+    list: &List,
+    ends: &[u16],
+    form: &[u8],
+    n: u16,
+    first: &mut [u16],
+    second: &mut [u16],
+    witness: &mut [u8],
+) -> Verdict {
+    let tree = Tree::build(&list.letters[..list.len], ends);
+    let table = &mut first[..tree.count * tree.count];
+    let rows = &mut second[..(form.len() + 1) * tree.count];
+    fill(&tree, n, table);
+    path(form, &tree, n, table, rows);
+    if rows[form.len() * tree.count] > n {
+        return Verdict::None;
+    }
+    Verdict::Member(write_witness(form, &tree, table, rows, witness))
+}
+
+pub fn judge(
+    bytes: &[u8],
+    ends: &[u16],
+    target: &[u8],
+    n: u16,
+    first: &mut [u16],
+    second: &mut [u16],
+    witness: &mut [u8],
+) -> Verdict {
+    if let Err(refused) = of_list(bytes, ends, target) {
+        return refused;
+    }
+    let list = match reduce_list(bytes, ends) {
+        Ok(list) => list,
+        Err(refused) => return refused,
+    };
+    let mut form = [0; LETTERS];
+    let len = reduce(target, &mut form);
+    let form = &form[..len];
+    if form.len() > FORM {
+        return Verdict::Refused(12, 0);
+    }
+    if n > LARGEST_BOUND {
+        return Verdict::Refused(13, 0);
+    }
+    if witness.len() < n as usize {
+        return Verdict::Refused(14, 0);
+    }
+    let q = list.len + 2 * form.len() + 1;
+    if first.len() < q * q || second.len() < q * q {
+        return Verdict::Refused(15, 0);
+    }
+    let verdict = if form.is_empty() {
+        Verdict::Member(0)
+    } else {
+        search(
+            &list,
+            &list.ends[..ends.len()],
+            form,
+            n,
+            first,
+            second,
+            witness,
+        )
+    };
+    first[..q * q].fill(0);
+    second[..q * q].fill(0);
+    verdict
+}

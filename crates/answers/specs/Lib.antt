@@ -1,0 +1,3 @@
+pub mod Line
+pub mod Storing
+pub mod Calls

@@ -1,0 +1,143 @@
+// What the trial prints with: the call, its verdict, and what the lent slices hold afterwards.
+use engine::Verdict;
+use words::Refusal;
+ghost use Prim.Native.Nat.{_+_, _^_, _≤_, _<_};
+
+// A word of at most twelve bytes, or its first four bytes and how many there are.
+fn word(bytes: &[u8]) {
+    if bytes.len() <= 12 {
+        io::write_all(1, bytes);
+    } else {
+        io::write_all(1, &bytes[..4]);
+        io::write_all(1, b"~");
+        io::print_decimal(1, bytes.len() as u64);
+    }
+}
+
+fn number(x: u16) {
+    io::write_all(1, b" ");
+    io::print_decimal(1, x as u64);
+}
+
+fn numbers(ends: &[u16]) {
+    let mut i = 0;
+    while i < ends.len() {
+        number(ends[i]);
+        i += 1;
+    }
+}
+
+// At most six ends, or the first two and how many there are.
+fn list_ends(ends: &[u16]) {
+    if ends.len() <= 6 {
+        numbers(ends);
+    } else {
+        numbers(&ends[..2]);
+        io::write_all(1, b"~");
+        io::print_decimal(1, ends.len() as u64);
+    }
+}
+
+// The list's letters and ends, the target, and n.
+pub(crate) fn call(bytes: &[u8], ends: &[u16], target: &[u8], n: u16) {
+    io::write_all(1, b"'");
+    word(bytes);
+    io::write_all(1, b"'");
+    list_ends(ends);
+    io::write_all(1, b", '");
+    word(target);
+    io::write_all(1, b"',");
+    number(n);
+    io::write_all(1, b": ");
+}
+
+fn refused(refusal: Refusal) {
+    io::write_all(1, b"refused ");
+    io::print_decimal(1, words::questions::number(refusal) as u64);
+    io::write_all(1, b" ");
+    io::print_decimal(1, words::questions::place(refusal) as u64);
+}
+
+pub(crate) fn verdict(answer: Verdict) {
+    match answer {
+        Verdict::Member(count) => {
+            io::write_all(1, b"member");
+            number(count.0);
+        }
+        Verdict::None => {
+            io::write_all(1, b"none");
+        }
+        Verdict::Refused(refusal) => refused(refusal),
+    }
+}
+
+// One more, where x has the value.
+fn one_more(count: usize, x: u16, value: u16) -> usize
+    requires { ⌜ count + 1 < 2 ^ 64 ⌝ }
+    ensures { λ r. ⌜ r ≤ count + 1 ⌝ }
+{
+    if x == value {
+        return count + 1;
+    }
+    count
+}
+
+// How many entries have the value.
+fn count_entries(entries: &[u16], value: u16) -> usize {
+    let mut count = 0;
+    let mut i = 0;
+    while i < entries.len() {
+        count = one_more(count, entries[i], value);
+        i += 1;
+    }
+    count
+}
+
+// How many entries of a table are 0, and how many are as they were.
+pub(crate) fn table(entries: &[u16]) {
+    io::write_all(1, b"; ");
+    io::print_decimal(1, count_entries(entries, 0) as u64);
+    io::write_all(1, b" zero, ");
+    io::print_decimal(1, count_entries(entries, 65535) as u64);
+    io::write_all(1, b" full");
+}
+
+fn wide(x: u8) -> u16 {
+    x as u16
+}
+
+fn factors(bytes: &[u8]) {
+    let mut i = 0;
+    while i < bytes.len() {
+        number(wide(bytes[i]));
+        i += 1;
+    }
+}
+
+fn count_bytes(bytes: &[u8], value: u16) -> usize {
+    let mut count = 0;
+    let mut i = 0;
+    while i < bytes.len() {
+        count = one_more(count, wide(bytes[i]), value);
+        i += 1;
+    }
+    count
+}
+
+// At most the first six bytes.
+fn first_factors(bytes: &[u8]) {
+    if bytes.len() <= 6 {
+        factors(bytes);
+    } else {
+        factors(&bytes[..6]);
+    }
+}
+
+// The first bytes of the witness, and how many are as they were.
+pub(crate) fn witness(bytes: &[u8]) {
+    io::write_all(1, b";");
+    first_factors(bytes);
+    io::write_all(1, b", ");
+    io::print_decimal(1, count_bytes(bytes, 255) as u64);
+    io::write_all(1, b" full\n");
+}
