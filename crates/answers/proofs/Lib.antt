@@ -1,3 +1,4 @@
 pub mod Decimals
 mod Fields
 mod Storing
+pub mod LineLength

@@ -6,4 +6,5 @@ mod Parts
 mod Forms
 mod Writing
 mod Reduction
+pub mod TurnedMatrix
 pub mod RoundTrip

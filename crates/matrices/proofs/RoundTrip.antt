@@ -12,7 +12,7 @@ use lib.ListN.{length, take}
 use borrow.Author.Tests.{le-leb, leb-true}
 use Rattle.words.specs.Word.{R, S, Word, nf}
 use Rattle.words.specs.Bytes.{word, bytes}
-use Rattle.words.specs.Questions.{firstNo, firstOther, question8, question10, question12, question14, ofLetters}
+use Rattle.words.specs.Questions.{firstNo, firstOther, question8, question10, question12, ofLetters}
 use Rattle.words.specs.Slices.{overwritten, written}
 use Rattle.words.specs.Calls.{lengthOr}
 use Rattle.words.specs.declared.Letters.{Letters}
@@ -22,14 +22,12 @@ use Rattle.words.specs.declared.Asked.the-variants.{Passed, Refused}
 use Rattle.words.specs.declared.Written.{Written}
 use Rattle.words.specs.declared.Written.the-variants.{Length}
 use Rattle.words.proofs.Asking.{asks-yes, asks-passed, first-no-head, first-no-tail, first-no-one}
-use Rattle.words.proofs.Answering.{passed-of-answer, take-overwritten}
 use Rattle.words.proofs.Bytes.{word-bytes, length-bytes}
 use Rattle.words.proofs.NormalForm.{nf-of-normal}
 use Rattle.unimodular.specs.Matrix.{Matrix, UpToSign, matrixOf, signed, NormalFormOf}
 use Rattle.unimodular.proofs.Integers.{natAbs-negℤ}
 use Rattle.unimodular.proofs.Product.{sign-sym, sign-trans, determinant-sign, determinant-word}
 use Rattle.unimodular.proofs.Faithful.{normal-form-of-word, normal-form-sign}
-use Rattle.unimodular.proofs.Peeling.{normal-form-exists}
 use Rattle.matrices.specs.Entries.{matrix, entries}
 use Rattle.matrices.specs.Questions.{question5, question16, ofTurnedWord, ofEntries, ofNormalForm}
 use Rattle.matrices.specs.Forming.{ofForm}
@@ -37,11 +35,12 @@ use Rattle.matrices.specs.Calls.{matrixOr, TurnsWord, TurnsMatrix}
 use Rattle.matrices.specs.declared.Matrix.{Matrix as Entries}
 use Rattle.matrices.specs.declared.Turned.{Turned}
 use Rattle.matrices.specs.declared.Turned.the-variants.{Into}
-use Rattle.matrices.proofs.Range.{Small, small-of-passed, passed-of-small, sixteen, question16-by-5, passed-in-range, passed-determinant, entries-passed}
+use Rattle.matrices.proofs.Range.{Small, small-of-passed, passed-of-small, sixteen, question16-by-5, passed-in-range, entries-passed}
 use Rattle.matrices.proofs.Signs.{sign-of-signed}
 use Rattle.matrices.proofs.Forms.{form-short}
 use Rattle.matrices.proofs.Writing.{letters-and-room}
 use Rattle.matrices.proofs.Reduction.{letters-passed}
+use Rattle.matrices.proofs.TurnedMatrix.{turned-form, turned-short, turned-bytes}
 
 -- ---- a word, its matrix, and back
 
@@ -107,7 +106,7 @@ module _ (w : List ℕ) (e : Entries) (h : TurnsWord w (Into e)) where
 -- ---- a matrix, its normal form, and back
 
 -- every byte of a word is a letter
-letters-only : (w : Word) → firstOther (bytes w) ≡ length (bytes w)
+pub letters-only : (w : Word) → firstOther (bytes w) ≡ length (bytes w)
 letters-only [] = refl
 letters-only (R ∷ w) = ap suc (letters-only w)
 letters-only (S ∷ w) = ap suc (letters-only w)
@@ -166,26 +165,14 @@ module _ (m : Matrix) (passes : ofEntries m ≡ Passed) where
   pub matrix-word-matrix : (before after : List ℕ) (n : Letters) → TurnsMatrix m before (Length n) after →
       (r : Turned) → TurnsWord (take (n .0) after) r → (e : Entries) × (r ≡ Into e) × UpToSign (matrix e) m
   matrix-word-matrix before after n t r u =
-      back-again w p short r (subst (λ (s : List ℕ). TurnsWord s r) written-word u)
+      back-again w p (turned-short m before after (Length n) t refl w p) r
+      (subst (λ (s : List ℕ). TurnsWord s r) (turned-bytes m before after (Length n) t refl w p) u)
     where
       found : (w : Word) × NormalFormOf m w
-      found = normal-form-exists m (passed-determinant m passes)
+      found = turned-form m before after (Length n) t refl
 
       w : Word
       w = found .0
 
       p : NormalFormOf m w
       p = found .1
-
-      asked : (ofNormalForm w (length before) ≡ Passed) × (n .0 ≡ length w)
-      asked = passed-of-answer (ofNormalForm w (length before)) (length w) (sym (t .answer passes w p))
-
-      short : length w ≤ 80
-      short =
-          leb-true (length w) 80
-          (asks-passed (leb (length w) 80) NormalFormTooLong (first-no-head (question12 (length w)) (question14 80 (length before) ∷ []) (asked .0)))
-
-      written-word : take (n .0) after ≡ bytes w
-      written-word =
-          ap (take (n .0)) (t .slice passes w p ∙ ap (λ (a : Asked). written a (bytes w) before) (asked .0))
-          ∙ take-overwritten (bytes w) before (n .0) (asked .1 ∙ sym (length-bytes w))

@@ -1,0 +1,71 @@
+-- What a caller learns from the answer when a list is made flat. Assumes nothing.
+use mathlib.Core.Path.{_≡_, refl, sym, ap, _∙_}
+use mathlib.Core.List.{List, [], _∷_, _++_}
+use Prim.Native.Nat.{ℕ, _≤_}
+use native.Mathlib.Omega.{arith}
+use lib.Dec.{leb}
+use lib.ListN.{length, take}
+use borrow.Author.Tests.{leb-true}
+use Rattle.words.specs.Questions.{firstNo, question8, question10}
+use Rattle.words.specs.declared.Refusal.{Refusal}
+use Rattle.words.specs.declared.Refusal.the-variants.{TooManyGenerators, TooManyLetters}
+use Rattle.words.specs.declared.Asked.{Asked}
+use Rattle.words.specs.declared.Asked.the-variants.{Passed, Refused}
+use Rattle.words.proofs.Asking.{asks-passed, first-no-refused, first-no-head, first-no-tail, first-no-one}
+use Rattle.words.proofs.Answering.{take-overwritten}
+use Rattle.lists.specs.Questions.{question7, question9, ofList}
+use Rattle.cards.specs.Card.{listBytes, listEnds}
+use Rattle.cards.specs.Reading.{Listed, SomeListed, FlatRight, Flattens}
+use Rattle.cards.specs.declared.flattening.Flat.{Flat}
+use Rattle.cards.specs.declared.flattening.Flat.the-variants.{Letters as Flat·Letters, Refused as Flat·Refused}
+use Rattle.cards.proofs.ListBytes.{list-ends-length}
+use Rattle.cards.proofs.GeneratorFields.{listed-count}
+
+-- The list's letters and its ends stand in the fronts of two slices, for which 4,096 letters and 64 ends are room enough.
+pub record InFronts (list : List (List ℕ)) (count total : ℕ) (letters ends : List ℕ) : Type 0 where
+  pub few : count ≤ 64
+  pub short : total ≤ 4096
+  pub letters-front : take total letters ≡ listBytes list
+  pub ends-front : take count ends ≡ listEnds 0 list
+
+module _ (list : List (List ℕ)) (before after beforeEnds afterEnds : List ℕ) (r : Flat) (h : Flattens list r before after beforeEnds afterEnds) where
+  abbrev asked : Asked
+  asked = firstNo (question7 (length list) ∷ question8 (length (listBytes list)) ∷ [])
+
+  -- questions 7 and 8 of the list are the first that are asked, whatever the target's letters
+  pub flat-refused : {refusal : Refusal} → r ≡ Flat·Refused refusal → (target : List ℕ) → ofList (listBytes list) (listEnds 0 list) target ≡ Refused refusal
+  flat-refused {refusal} e target =
+      ap (λ (count : ℕ). firstNo (question7 count ∷ question8 (length (listBytes list)) ∷ rest)) (list-ends-length 0 list)
+      ∙ first-no-refused (question7 (length list) ∷ question8 (length (listBytes list)) ∷ []) rest (go asked h)
+    where
+      rest : List Asked
+      rest = question8 (length target) ∷ question9 (listEnds 0 list) (length (listBytes list)) ∷ question10 (listBytes list ++ target) ∷ []
+
+      go : (a : Asked) → FlatRight a list r before after beforeEnds afterEnds → a ≡ Refused refusal
+      go Passed right = let other = right .0 in let z : _≡_ {A = ℕ} 0 1 = cc in absurd (omega arith)
+      go (Refused other) right = let same = right .0 in cc
+
+  flat-fronts : {count total : ℕ} → length list ≡ count → r ≡ Flat·Letters total → InFronts list count total after afterEnds
+  flat-fronts {count} {total} number e = go asked refl h
+    where
+      go : (a : Asked) → asked ≡ a → FlatRight a list r before after beforeEnds afterEnds → InFronts list count total after afterEnds
+      go (Refused refusal) passed right = let other = right .0 in let z : _≡_ {A = ℕ} 0 1 = cc in absurd (omega arith)
+      go Passed passed (answer, letters, ends) =
+          let all : total ≡ length (listBytes list) = let same : Flat·Letters total ≡ Flat·Letters (length (listBytes list)) = sym e ∙ answer in cc in
+          let seventh = first-no-head (question7 (length list)) (question8 (length (listBytes list)) ∷ []) passed in
+          let eighth = sym (first-no-one (question8 (length (listBytes list)))) ∙ first-no-tail (question7 (length list)) (question8 (length (listBytes list)) ∷ []) passed in
+          record {
+            few = omega (arith, number, leb-true (length list) 64 (asks-passed (leb (length list) 64) TooManyGenerators seventh));
+            short = omega (arith, all, leb-true (length (listBytes list)) 4096 (asks-passed (leb (length (listBytes list)) 4096) TooManyLetters eighth));
+            letters-front = ap (take total) letters ∙ take-overwritten (listBytes list) before total all;
+            ends-front = ap (take count) ends ∙ take-overwritten (listEnds 0 list) beforeEnds count (sym (list-ends-length 0 list ∙ number));
+          }
+
+-- whichever list fills the card from a place on
+module _ (card : List ℕ) (start count : ℕ) (before after beforeEnds afterEnds : List ℕ) (r : Flat)
+    (h : (list : List (List ℕ)) → Listed card start count list → Flattens list r before after beforeEnds afterEnds) {total : ℕ} (e : r ≡ Flat·Letters total) where
+  pub listed-fronts : (list : List (List ℕ)) → Listed card start count list → InFronts list count total after afterEnds
+  listed-fronts list listed = flat-fronts list before after beforeEnds afterEnds r (h list listed) (listed-count card start count listed) e
+
+  pub fronts-fit : SomeListed card start count → length after ≡ 4096 → length afterEnds ≡ 64 → (total ≤ length after) × (count ≤ length afterEnds)
+  fronts-fit (list, listed) room room-ends = let f = listed-fronts list listed in (omega (arith, f .short), omega (arith, f .few))

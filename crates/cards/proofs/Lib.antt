@@ -1,0 +1,21 @@
+mod AnsweredFields
+mod PlacedBounds
+mod FourNumbers
+mod PlacedTargets
+mod WholeReads
+mod PlacedLists
+pub mod ListBytes
+pub mod MadeRead
+mod Fronts
+mod GeneratorFields
+mod GeneratorSpans
+mod PuttingList
+mod FlatAnswers
+mod FlatFronts
+mod LettersBehind
+mod ProductAnswers
+mod LongForms
+mod MatrixAnswers
+mod CardFields
+mod CardEnds
+mod MapQuestions

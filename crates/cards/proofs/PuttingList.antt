@@ -1,0 +1,113 @@
+-- The loop that puts a list's generators one behind the other: those that are done stand in the fronts of the two slices, those that are left in
+-- the rest of the card.
+-- Assumes nothing.
+use mathlib.Core.Path.{_≡_, refl, sym, ap, ap₂, _∙_}
+use mathlib.Core.List.{List, [], _∷_, _++_, append-assoc, append-nil}
+use Prim.Native.Nat.{ℕ, suc, _+_, _-_, _≤_, _<_}
+use native.Mathlib.Omega.{arith}
+use lib.ListN.{length, drop, set, length-append}
+use lib.Seq.{paste}
+use Rattle.words.specs.Slices.{overwritten}
+use Rattle.fields.specs.Field.{Whole}
+use Rattle.cards.specs.Card.{generatorFields, listBytes, listEnds}
+use Rattle.cards.specs.Reading.{Listed}
+use Rattle.cards.specs.Flattening.{GeneratorAt, ShortGenerator, PutsGenerator, PutsList}
+use Rattle.cards.proofs.Fronts.{front-copied, front-stored}
+use Rattle.cards.proofs.GeneratorFields.{First, first-generator, no-generators}
+use Rattle.cards.proofs.ListBytes.{list-bytes-append, list-ends-append, list-ends-length}
+
+-- After i generators of `count`, `sum` letters have been put, and the rest of the card begins at `at`.
+pub record Putting (card : List ℕ) (count : ℕ) (list : List (List ℕ)) (old oldEnds letters ends : List ℕ) (at sum i : ℕ) : Type 0 where
+  pub done : List (List ℕ)
+  pub left : List (List ℕ)
+  pub splits : list ≡ done ++ left
+  pub stand : generatorFields (count - i) (drop at card) ≡ Whole left []
+  pub many : length done ≡ i
+  pub long : length (listBytes done) ≡ sum
+  pub letters-are : letters ≡ overwritten (listBytes done) old
+  pub ends-are : ends ≡ overwritten (listEnds 0 done) oldEnds
+
+pub putting-begins : (card : List ℕ) (start count : ℕ) (list : List (List ℕ)) (old oldEnds : List ℕ) → Listed card start count list
+    → Putting card count list old oldEnds old oldEnds start 0 0
+putting-begins card start count list old oldEnds listed =
+    let all : count - 0 ≡ count = omega arith in
+    record {
+      done = [];
+      left = list;
+      splits = refl;
+      stand = ap (λ (n : ℕ). generatorFields n (drop start card)) all ∙ listed;
+      many = refl;
+      long = refl;
+      letters-are = refl;
+      ends-are = refl;
+    }
+
+module _ {card : List ℕ} {count : ℕ} {list : List (List ℕ)} {old oldEnds letters ends : List ℕ} {at sum i : ℕ}
+    (p : Putting card count list old oldEnds letters ends at sum i) where
+  module _ (more : i < count) where
+    first : First (drop at card) (count - (i + 1)) (p .left) []
+    first =
+        let one-less : suc (count - (i + 1)) ≡ count - i = omega arith in
+        first-generator (drop at card) (count - (i + 1)) (ap (λ (n : ℕ). generatorFields n (drop at card)) one-less ∙ p .stand)
+
+    within : sum + length (first .generator) ≤ length (listBytes list)
+    within =
+        omega (
+          arith,
+          p .long,
+          length-append (listBytes (p .done)) (listBytes (p .left)),
+          length-append (first .generator) (listBytes (first .others)),
+          ap (λ (l : List (List ℕ)). length (listBytes l)) (p .splits),
+          ap length (list-bytes-append (p .done) (p .left)),
+          ap (λ (l : List (List ℕ)). length (listBytes l)) (first .splits),
+        )
+
+    pub putting-short : length (listBytes list) ≤ 4096 → ShortGenerator card at sum
+    putting-short h = (first .generator, first .behind, first .there, omega (arith, within))
+
+    module _ {r : ℕ} {letters′ ends′ : List ℕ}
+        (puts : (generator rest : List ℕ) → GeneratorAt card at generator rest → PutsGenerator card at sum i generator rest r letters letters′ ends ends′) where
+      put : PutsGenerator card at sum i (first .generator) (first .behind) r letters letters′ ends ends′
+      put = puts (first .generator) (first .behind) (first .there)
+
+      pub putting-place : at + 2 + r ≤ length card
+      putting-place = put .behind .0
+
+      pub putting-sum : sum + r ≤ length (listBytes list)
+      putting-sum = omega (arith, within, put .answer)
+
+      pub putting-more : i < length oldEnds → Putting card count list old oldEnds letters′ ends′ (at + 2 + r) (sum + r) (i + 1)
+      putting-more room =
+          let g = first .generator in
+          let done = p .done ++ g ∷ [] in
+          let bytes : listBytes done ≡ listBytes (p .done) ++ g = list-bytes-append (p .done) (g ∷ []) ∙ ap (λ (l : List ℕ). listBytes (p .done) ++ l) (append-nil g) in
+          let end : 0 + length (listBytes (p .done)) + length g ≡ sum + r = omega (arith, p .long, put .answer) in
+          let its-ends : listEnds 0 done ≡ listEnds 0 (p .done) ++ (sum + r) ∷ [] =
+          list-ends-append 0 (p .done) (g ∷ []) ∙ ap (λ (n : ℕ). listEnds 0 (p .done) ++ n ∷ []) end in
+          let behind : length (listEnds 0 (p .done)) ≡ i = list-ends-length 0 (p .done) ∙ p .many in
+          record {
+            done = done;
+            left = first .others;
+            splits = p .splits ∙ ap (λ (l : List (List ℕ)). p .done ++ l) (first .splits) ∙ sym (append-assoc (p .done) (g ∷ []) (first .others));
+            stand = ap (generatorFields (count - (i + 1))) (put .behind .1) ∙ first .follow;
+            many = omega (arith, length-append (p .done) (g ∷ []), p .many);
+            long = omega (arith, ap length bytes, length-append (listBytes (p .done)) g, p .long, put .answer);
+            letters-are =
+                put .letters ∙ ap (λ (l : List ℕ). paste l sum g r) (p .letters-are)
+                ∙ ap₂ (λ (m n : ℕ). paste (overwritten (listBytes (p .done)) old) m g n) (sym (p .long)) (put .answer)
+                ∙ front-copied (listBytes (p .done)) old g ∙ ap (λ (l : List ℕ). overwritten l old) (sym bytes);
+            ends-are =
+                put .ends ∙ ap (λ (l : List ℕ). set l i (sum + r)) (p .ends-are)
+                ∙ ap (λ (n : ℕ). set (overwritten (listEnds 0 (p .done)) oldEnds) n (sum + r)) (sym behind)
+                ∙ front-stored (listEnds 0 (p .done)) oldEnds (sum + r) (omega (arith, behind)) ∙ ap (λ (l : List ℕ). overwritten l oldEnds) (sym its-ends);
+          }
+
+  pub putting-over : i ≡ count → PutsList list old letters oldEnds ends
+  putting-over over =
+      let none-left : count - i ≡ 0 = omega arith in
+      let none : p .left ≡ [] = no-generators (drop at card) (sym (ap (λ (n : ℕ). generatorFields n (drop at card)) none-left) ∙ p .stand) in
+      let all : p .done ≡ list = sym (append-nil (p .done)) ∙ ap (λ (l : List (List ℕ)). p .done ++ l) (sym none) ∙ sym (p .splits) in
+      record {
+        letters = p .letters-are ∙ ap (λ (l : List (List ℕ)). overwritten (listBytes l) old) all;
+        ends = p .ends-are ∙ ap (λ (l : List (List ℕ)). overwritten (listEnds 0 l) oldEnds) all;
+      }
