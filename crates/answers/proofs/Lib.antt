@@ -1,4 +1,4 @@
 pub mod Decimals
 mod Fields
 mod Storing
-pub mod LineLength
+mod LineLength

@@ -23,8 +23,8 @@ told-fits : (long room : ℕ) (test : Bool) → leb long room ≡ test → told 
 told-fits long room true e = leb-true long room e
 told-fits long room false e = omega arith
 
-pub line-fits : (answer : Answer) (witness before : List ℕ) (r : Lined) (after : List ℕ) (len : ℕ)
+pub line-fits : {answer : Answer} {witness before after : List ℕ} {r : Lined} {len : ℕ}
     → WritesLine answer witness before r after → r ≡ Length len → len ≤ length before
-line-fits answer witness before r after len writes e =
+line-fits {answer} {witness} {before} writes e =
     subst (λ (k : ℕ). k ≤ length before) (ap told (sym (writes .answer-is) ∙ e))
     (told-fits (length (line answer witness)) (length before) (leb (length (line answer witness)) (length before)) refl)

@@ -1,6 +1,9 @@
 // The answer to a query card, and the line that says it.
 mod writing;
 
+// The longest line of an answer of at most 1,000 factors has fewer bytes.
+const LINE: usize = 4096;
+
 use words::Factors;
 use words::Refusal;
 ghost use Rattle.answers.specs.Calls.{WritesLine};
@@ -30,4 +33,13 @@ pub fn write_line(answer: Answer, witness: &[u8], out: &mut [u8]) -> Lined
         return Lined::TooShort;
     }
     Lined::Length(writing::line(answer, witness, out))
+}
+
+// Writes the answer's line to standard output, in one write. False where that fails, or the line has more than 4,096 bytes.
+pub fn print(answer: Answer, witness: &[u8]) -> bool {
+    let mut line = [0u8; LINE];
+    match write_line(answer, witness, &mut line) {
+        Lined::TooShort => false,
+        Lined::Length(len) => io::write_all(1, &line[..len]),
+    }
 }

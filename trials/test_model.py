@@ -1,0 +1,214 @@
+#!/usr/bin/env python3
+"""Tests of trials/model.py: document 01's worked values P1 to P12 and edges, the laws that its ways of computing rest on, and each question."""
+
+import itertools
+import os
+import random
+import sys
+import unittest
+
+sys.dont_write_bytecode = True
+sys.path.insert(0, os.path.dirname(os.path.abspath(__file__)))
+
+import model  # noqa: E402 (it stands beside this file)
+
+WORKED = bytes.fromhex("0B 03 00 06 00 53 52 53 52 53 52 01 02 00 53 52")
+T, U = (1, 1, 0, 1), (1, 0, 1, 1)
+
+
+def words(longest):
+    return [bytes(letters) for length in range(longest + 1) for letters in itertools.product(b"RS", repeat=length)]
+
+
+def power_of_t(k):
+    return b"SR" * k if k >= 0 else b"RSS" * -k
+
+
+def judged(generators, target, n):
+    """All least series, with tables and a witness that are large enough."""
+    return list(model.verdict(generators, target, n, tables=(231361, 231361), room=1000))
+
+
+class Asking(unittest.TestCase):
+    def assert_refused(self, number, place, call, *arguments):
+        with self.assertRaises(model.Refused) as caught:
+            call(*arguments)
+        self.assertEqual((caught.exception.number, caught.exception.place), (number, place))
+
+
+class WorkedValues(unittest.TestCase):
+    def test_p1_to_p4(self):
+        for word, form in ((b"RR", b""), (b"SSS", b""), (b"SSSS", b"S"), (b"RSSSR", b"")):
+            self.assertEqual(model.reduced(word, len(word)), form)
+        self.assertEqual(model.inverted(b"SR", 4), b"RSS")
+
+    def test_p5_to_p7(self):
+        self.assertEqual(model.matrix_of_word(b"S"), (1, -1, 1, 0))
+        self.assertEqual(model.matrix_of_word(b"SR"), T)
+        self.assertEqual(model.word_of_matrix(U, 80), b"SSR")
+
+    def test_p8_to_p12(self):
+        self.assertEqual(judged([], b"", 0), [[]])
+        self.assertEqual(judged([], b"R", 1000), [])
+        self.assertEqual(judged([b"RS", b"S"], b"R", 3), [[0, 1, 1]])
+        self.assertEqual(judged([b"RS", b"S"], b"R", 2), [])
+        self.assertEqual(judged([b"RSRS", b"S", b"SRSS"], b"R", 3), [[0, 1, 2]])
+        self.assertEqual(judged([b"RSRS", b"S", b"SRSS"], b"R", 2), [])
+        self.assertEqual(judged([b"SSS"], b"", 5), [[]])
+
+    def test_worked_card(self):
+        self.assertEqual(model.line(WORKED), "member 3 0 0 0")
+
+    def test_inverses_of_t_and_u(self):
+        self.assertEqual(model.word_of_matrix((1, -1, 0, 1), 80), b"RSS")
+        self.assertEqual(model.word_of_matrix((1, 0, -1, 1), 80), b"RS")
+
+
+class Edges(Asking):
+    def test_powers_of_t(self):
+        for k, letters in ((40, 80), (-26, 78)):
+            self.assertEqual(model.word_of_matrix((1, k, 0, 1), 80), power_of_t(k))
+            self.assertEqual(len(power_of_t(k)), letters)
+            self.assertEqual(judged([power_of_t(k // abs(k))], power_of_t(k), 1000), [[0] * abs(k)])
+        for k, letters in ((41, 82), (-27, 81)):
+            self.assertEqual(sum(len(word) * times for word, times in model.powers((1, k, 0, 1))), letters)
+            self.assert_refused(12, 0, model.word_of_matrix, (1, k, 0, 1), 80)
+            self.assert_refused(12, 0, judged, [b"SR"], power_of_t(k), 1000)
+
+    def test_tables_for_15(self):
+        self.assertEqual(model.side([b"SR"], b"SRSRSR"), 15)
+        self.assertEqual(list(model.verdict([b"SR"], b"SRSRSR", 3, (225, 225), 3)), [[0, 0, 0]])
+        self.assert_refused(15, 0, model.verdict, [b"SR"], b"SRSRSR", 3, (224, 225), 3)
+        self.assert_refused(15, 0, model.verdict, [b"SR"], b"SRSRSR", 3, (225, 224), 3)
+
+    def test_a_form_of_thousands_of_millions_of_letters(self):
+        self.assertEqual(model.powers((1, 2147483647, 0, 1)), [(b"", 1), (b"SR", 2147483647), (b"", 1)])
+        self.assert_refused(12, 0, model.word_of_matrix, (1, 2147483647, 0, 1), 80)
+
+
+class Laws(unittest.TestCase):
+    """What a group theorist would ask of the model before believing its walk."""
+
+    def test_erasing_in_any_order_gives_one_normal_form(self):
+        for word in words(10):
+            for place, rule in itertools.product(range(len(word)), (b"RR", b"SSS")):
+                if word.startswith(rule, place):
+                    self.assertEqual(model.normal_form(word[:place] + word[place + len(rule) :]), model.normal_form(word))
+
+    def test_inverse(self):
+        for word in words(8):
+            self.assertEqual(model.normal_form(word + model.inverse(word)), b"")
+            self.assertEqual(model.normal_form(model.inverse(word) + word), b"")
+
+    def test_same_normal_form_exactly_when_same_matrix_up_to_sign(self):
+        forms = {}
+        for word in words(10):
+            forms.setdefault(model.matrix(word), set()).add(model.normal_form(word))
+        self.assertTrue(all(len(same) == 1 for same in forms.values()))
+        self.assertEqual(len({form for same in forms.values() for form in same}), len(forms))
+
+    def test_the_word_of_a_matrix_and_back(self):
+        for word in words(10):
+            entries = model.matrix(word)
+            self.assertEqual(model.determinant(entries), 1)
+            for sign in (1, -1):
+                self.assertEqual(model.word_of_matrix(tuple(sign * entry for entry in entries), 80), model.normal_form(word))
+
+    def test_walks_by_rules_and_by_matrices_find_the_same_series(self):
+        chance = random.Random(1)
+        choices = words(4)
+        for _ in range(400):
+            generators = chance.choices(choices, k=chance.randrange(4))
+            target = chance.choice(choices)
+            n = chance.randrange(6)
+            found = sorted(model.least_series(generators, target, n))
+            self.assertEqual(found, sorted(model.least_series(generators, target, n, group=model.BY_MATRICES)))
+            self.assertEqual(found, self.by_trying_all(generators, target, n))
+
+    def by_trying_all(self, generators, target, n):
+        """The least series, from all series in rising length."""
+        for count in range(n + 1):
+            all_series = itertools.product(range(len(generators)), repeat=count)
+            reaching = [list(s) for s in all_series if model.normal_form(b"".join(generators[i] for i in s)) == model.normal_form(target)]
+            if reaching:
+                return reaching
+        return []
+
+    def test_a_walk_that_is_too_large(self):
+        with self.assertRaises(model.TooLarge):
+            list(model.least_series([b"SR", b"SSR"], b"R", 1000, cap=1000))
+
+
+class Questions(Asking):
+    def test_words(self):
+        for call, factor in ((model.reduced, 1), (model.inverted, 2)):
+            self.assertEqual(call(b"R" * 4096, factor * 4096), b"")
+            self.assert_refused(8, 0, call, b"X" * 4097, 0)
+            self.assert_refused(10, 1, call, b"RXX", 0)
+            self.assert_refused(14, 0, call, b"RR", factor * 2 - 1)
+
+    def test_matrices(self):
+        self.assert_refused(8, 0, model.matrix_of_word, b"X" * 4097)
+        self.assert_refused(10, 0, model.matrix_of_word, b"X")
+        self.assert_refused(12, 0, model.matrix_of_word, b"RSS" * 27)
+        self.assertEqual(model.matrix_of_word(b"R"), (0, 1, -1, 0))
+        self.assert_refused(5, 3, model.word_of_matrix, (1, 1, 1, 2**31), 0)
+        self.assert_refused(6, 0, model.word_of_matrix, (1, 1, 1, 1), 0)
+        self.assert_refused(14, 0, model.word_of_matrix, (1, 40, 0, 1), 79)
+
+    def test_ends(self):
+        def listed(letters, ends, target=b"R"):
+            return list(model.list_verdict(letters, ends, target, 3, (400, 400), 3))
+
+        self.assertEqual(listed(b"RSS", [2, 3]), [[0, 1, 1]])
+        self.assertEqual(listed(b"", [0]), [])
+        self.assertEqual(listed(b"", []), [])
+        self.assert_refused(9, 1, listed, b"RSS", [2, 1, 3])
+        self.assert_refused(9, 1, listed, b"RSS", [65535, 3, 2])
+        self.assert_refused(9, 2, listed, b"RSS", [1, 2])
+        self.assert_refused(9, 2, listed, b"RSS", [2, 4])
+        self.assert_refused(9, 0, listed, b"RSS", [])
+        self.assert_refused(9, 1, listed, b"XXX", [2])
+        self.assert_refused(7, 0, listed, b"XXX", [1] * 65)
+        self.assert_refused(8, 0, listed, b"XXX", [1], b"X" * 4097)
+
+    def test_verdict(self):
+        def asked(generators, target, n=1001, tables=(0, 0), room=0):
+            return model.verdict(generators, target, n, tables, room)
+
+        long = b"RSS" * 27
+        self.assert_refused(7, 0, asked, [b"X"] * 65, b"X" * 4097)
+        self.assert_refused(8, 0, asked, [b"X" * 4096, b"X"], b"X")
+        self.assert_refused(8, 0, asked, [b"X"], b"X" * 4097)
+        self.assert_refused(10, 82, asked, [long, b"S"], b"X")
+        self.assert_refused(11, 1, asked, [b"", long], long)
+        self.assert_refused(11, 4, asked, [b"SR" * 40] * 4 + [b"S"], long)
+        self.assert_refused(12, 0, asked, [b"SR"], long)
+        self.assert_refused(13, 0, asked, [b"SR"], b"R")
+        self.assert_refused(14, 0, asked, [b"SR"], b"R", 1000, (0, 0), 999)
+        self.assert_refused(15, 0, asked, [b"SR"], b"R", 1000, (0, 0), 1000)
+
+    def test_cards(self):
+        matrix = bytes([4]) + b"".join(entry.to_bytes(8, "little", signed=True) for entry in (1, 2**31, 2**31, 1))
+        for card, says in (
+            (bytes(8327), "refused 1 0"),
+            (b"", "refused 2 0"),
+            (b"\x10", "refused 2 0"),
+            (b"\x06", "refused 2 0"),
+            (WORKED[:-1], "refused 3 15"),
+            (WORKED + b"\0\0", "refused 4 16"),
+            (matrix[:-1], "refused 3 32"),
+            (matrix, "refused 5 1"),
+            (b"\0", "member 0"),
+            (b"\x02\x01\0R", "none 1000"),
+            (b"\x01\xe9\x03", "refused 13 0"),
+        ):
+            self.assertEqual(model.line(card), says)
+
+    def test_a_line_that_the_document_leaves_free(self):
+        with self.assertRaises(model.Undecided):
+            model.line(b"\x0a\x01\0R\x02\x01\0R\x01\0R")
+
+
+if __name__ == "__main__":
+    unittest.main()
