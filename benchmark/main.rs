@@ -5,7 +5,7 @@ mod reference;
 
 use reference::Verdict;
 
-/// As in the crate `kernelhop`: a refusal's number and its place, or 0 and the count of a member, or 0 and n + 1 for none.
+/// As in the crate `kernelhop`: 0 and the count of a member, 255 and n for none, or a refusal's number and its place.
 #[repr(C)]
 struct Outcome {
     number: u8,
@@ -51,8 +51,8 @@ fn proved(call: &Call, lent: &mut Lent) -> Verdict {
         )
     };
     match (outcome.number, outcome.value) {
-        (0, count) if count <= call.n as usize => Verdict::Member(count as u16),
-        (0, _) => Verdict::None,
+        (0, count) => Verdict::Member(count as u16),
+        (255, _) => Verdict::None,
         (number, place) => Verdict::Refused(number, place),
     }
 }

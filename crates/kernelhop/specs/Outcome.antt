@@ -1,17 +1,51 @@
--- How a verdict is told to a caller in another language, by two numbers. Assumes nothing: these are definitions.
-use Prim.Native.Nat.{ℕ, _+_}
+-- How the calls' answers are told to a caller in another language: by two numbers. Assumes nothing: these are definitions.
+use mathlib.Core.Path.{_≡_}
+use mathlib.Core.List.{List, [], _∷_}
+use Prim.Native.Nat.{ℕ}
+use lib.IntN.{ℤ}
 use Rattle.words.specs.Questions.{number, place}
+use Rattle.words.specs.declared.Refusal.{Refusal}
+use Rattle.words.specs.declared.Written.{Written}
+use Rattle.words.specs.declared.Written.the-variants.{Length, Refused as Written·Refused}
+use Rattle.matrices.specs.declared.Turned.{Turned}
+use Rattle.matrices.specs.declared.Turned.the-variants.{Into, Refused as Turned·Refused}
 use Rattle.engine.specs.declared.Verdict.{Verdict}
 use Rattle.engine.specs.declared.Verdict.the-variants.{Member, None, Refused}
+use Rattle.answers.specs.declared.Answer.{Answer}
+use Rattle.answers.specs.declared.Answer.the-variants.{Member as Answer·Member, None as Answer·None, Refused as Answer·Refused}
+use Rattle.kernelhop.specs.declared.Outcome.{Outcome}
 
--- document 01's number of the question that is answered no, or 0 for a verdict
-abbrev pub numberOf : Verdict → ℕ
-numberOf (Member count) = 0
-numberOf None = 0
-numberOf (Refused refusal) = number refusal
+-- a refusal by document 01's number, from 1 to 16, and its place
+abbrev pub ofRefusal : Refusal → Outcome
+ofRefusal refusal = record { number = number refusal; value = place refusal }
 
--- the refusal's place; a member's count, which is at most n; or n + 1 for none
-abbrev pub valueOf : ℕ → Verdict → ℕ
-valueOf n (Member count) = count .0
-valueOf n None = n + 1
-valueOf n (Refused refusal) = place refusal
+-- an answer: 0 and its value
+abbrev pub yes : ℕ → Outcome
+yes value = record { number = 0; value = value }
+
+-- none: 255 and n
+abbrev pub no : ℕ → Outcome
+no n = record { number = 255; value = n }
+
+abbrev pub ofWritten : Written → Outcome
+ofWritten (Length letters) = yes (letters .0)
+ofWritten (Written·Refused refusal) = ofRefusal refusal
+
+abbrev pub ofTurned : Turned → Outcome
+ofTurned (Into m) = yes 0
+ofTurned (Turned·Refused refusal) = ofRefusal refusal
+
+-- the four entries of the matrix, or what stood there
+abbrev pub entriesOr : Turned → List ℤ → List ℤ
+entriesOr (Into m) before = m .a ∷ m .b ∷ m .c ∷ m .d ∷ []
+entriesOr (Turned·Refused refusal) before = before
+
+abbrev pub ofVerdict : ℕ → Verdict → Outcome
+ofVerdict n (Member count) = yes (count .0)
+ofVerdict n None = no n
+ofVerdict n (Refused refusal) = ofRefusal refusal
+
+abbrev pub ofAnswer : Answer → Outcome
+ofAnswer (Answer·Member count) = yes (count .0)
+ofAnswer (Answer·None n) = no (n .0)
+ofAnswer (Answer·Refused refusal) = ofRefusal refusal

@@ -1,16 +1,79 @@
-// The bounded verdict for programs in C and Rust, which link the static library of this crate. A slice is lent there as a pointer and a length.
-use engine::Verdict;
+// The calls for programs in other languages, which link the static library of this crate. A slice is a pointer and a length there.
+mod telling;
+
+use matrices::Matrix;
+use matrices::Turned;
 use words::Factors;
 ghost use mathlib.Core.Path.{_≡_};
+ghost use Rattle.words.specs.Word.{nf, inverse};
+ghost use Rattle.words.specs.Calls.{Writes};
+ghost use Rattle.words.specs.declared.Written.{Written};
+ghost use Rattle.matrices.specs.Calls.{TurnsWord, TurnsMatrix};
+ghost use Rattle.matrices.specs.declared.Turned.{Turned};
 ghost use Rattle.engine.specs.Calls.{Judges};
 ghost use Rattle.engine.specs.declared.Verdict.{Verdict};
-ghost use Rattle.kernelhop.specs.Outcome.{numberOf, valueOf};
+ghost use Rattle.answers.specs.declared.Answer.{Answer};
+ghost use Rattle.cards.specs.Calls.{AnswersCard};
+ghost use Rattle.kernelhop.specs.Outcome.{ofWritten, ofTurned, entriesOr, ofVerdict, ofAnswer};
 
-// A refusal: the question's number and its place. A verdict: 0, and the count of a member or n + 1 for none.
+// An answer: 0, and the length written, the count of a member, or 0 for a matrix. None: 255, and n. A refusal: the question's number, from 1 to
+// 16, and its place.
 #[repr(C)]
 pub struct Outcome {
     pub number: u8,
     pub value: usize,
+}
+
+// The same as words::reduce.
+#[no_mangle]
+pub extern "C" fn kernelhop_reduce(word: &[u8], out: &mut [u8]) -> Outcome
+    ensures { λ r. ⌜ ((w : Written) × Writes nf 1 (now (word .entry)) (now (out .entry)) w (now (out .exit)) × (r ≡ ofWritten w)) ⌝ }
+{
+    telling::written(words::reduce(word, out))
+}
+
+// The same as words::invert.
+#[no_mangle]
+pub extern "C" fn kernelhop_invert(word: &[u8], out: &mut [u8]) -> Outcome
+    ensures { λ r. ⌜ ((w : Written) × Writes (λ x. nf (inverse x)) 2 (now (word .entry)) (now (out .entry)) w (now (out .exit)) × (r ≡ ofWritten w)) ⌝ }
+{
+    telling::written(words::invert(word, out))
+}
+
+// The same as matrices::word_to_matrix: a, b, c and d go into `out`, which a refusal leaves as it was.
+#[no_mangle]
+pub extern "C" fn kernelhop_word_to_matrix(word: &[u8], out: &mut [i64; 4]) -> Outcome
+    ensures { λ r. ⌜ ((t : Turned) × TurnsWord (now (word .entry)) t × (r ≡ ofTurned t) × (now (out .exit) ≡ entriesOr t (now (out .entry)))) ⌝ }
+{
+    match matrices::word_to_matrix(word) {
+        Turned::Refused(why) => telling::refusal(why),
+        Turned::Into(m) => {
+            // Only whole locals can be stored where signed numbers lie.
+            let a = m.a;
+            let b = m.b;
+            let c = m.c;
+            let d = m.d;
+            *out = [a, b, c, d];
+            Outcome {
+                number: 0,
+                value: 0,
+            }
+        }
+    }
+}
+
+// The same as matrices::matrix_to_word.
+#[no_mangle]
+pub extern "C" fn kernelhop_matrix_to_word(
+    a: i64,
+    b: i64,
+    c: i64,
+    d: i64,
+    out: &mut [u8],
+) -> Outcome
+    ensures { λ r. ⌜ ((w : Written) × TurnsMatrix (record { a = a; b = b; c = c; d = d }) (now (out .entry)) w (now (out .exit)) × (r ≡ ofWritten w)) ⌝ }
+{
+    telling::written(matrices::matrix_to_word(Matrix { a, b, c, d }, out))
 }
 
 // The same as engine::judge.
@@ -24,24 +87,31 @@ pub extern "C" fn kernelhop_judge(
     second: &mut [u16],
     witness: &mut [u8],
 ) -> Outcome
-    ensures { λ r. ⌜ ((verdict : Verdict)
-        × Judges (now (bytes .entry)) (now (ends .entry)) (now (target .entry)) n verdict
+    ensures { λ r. ⌜ ((v : Verdict)
+        × Judges (now (bytes .entry)) (now (ends .entry)) (now (target .entry)) n v
         (record { first = now (first .entry); second = now (second .entry); witness = now (witness .entry) })
         (record { first = now (first .exit); second = now (second .exit); witness = now (witness .exit) })
-        × (r .number ≡ numberOf verdict) × (r .value ≡ valueOf n verdict)) ⌝ }
+        × (r ≡ ofVerdict n v)) ⌝ }
 {
-    match engine::judge(bytes, ends, target, Factors(n), first, second, witness) {
-        Verdict::Member(count) => Outcome {
-            number: 0,
-            value: count.0 as usize,
-        },
-        Verdict::None => Outcome {
-            number: 0,
-            value: n as usize + 1,
-        },
-        Verdict::Refused(refusal) => Outcome {
-            number: words::questions::number(refusal),
-            value: words::questions::place(refusal),
-        },
-    }
+    telling::verdict(
+        n,
+        engine::judge(bytes, ends, target, Factors(n), first, second, witness),
+    )
+}
+
+// The same as cards::answer_card.
+#[no_mangle]
+pub extern "C" fn kernelhop_answer_card(
+    card: &[u8],
+    first: &mut [u16],
+    second: &mut [u16],
+    witness: &mut [u8],
+) -> Outcome
+    ensures { λ r. ⌜ ((v : Answer)
+        × AnswersCard (now (card .entry)) v
+        (record { first = now (first .entry); second = now (second .entry); witness = now (witness .entry) })
+        (record { first = now (first .exit); second = now (second .exit); witness = now (witness .exit) })
+        × (r ≡ ofAnswer v)) ⌝ }
+{
+    telling::card(cards::answer_card(card, first, second, witness))
 }

@@ -1,0 +1,80 @@
+/* Bounded products in the modular group, for C and C++. Link target/staticlib/libkernelhop.a, which `rt staticlib kernelhop` makes.
+
+   Words are in the letters R (byte 82) and S (byte 83), where RR and SSS vanish and no other rule holds. A lent slice is a pointer and its length,
+   counted in entries and not in bytes. Every call takes any content and any length: it answers, or it refuses by the first of its questions that is
+   answered no, and then nothing that was lent is changed. The answers are proved; the crate's contracts (crates/kernelhop/src/lib.rt) say the same.
+
+   What no callee can check, and the proofs take for granted:
+   - A pointer is valid, and aligned for its type, for as many entries as its length says. At length 0 it is not followed, and may be null.
+   - Each of those entries has been written, also where only the call is going to write.
+   - A slice that is written (`uint8_t *`, `uint16_t *`, `out` of the matrix) overlaps no other one of the call. Slices that are only read may overlap.
+   - No other thread writes what is lent before the call returns. The library keeps nothing between calls, so calls may run at the same time.
+   - The stack has KERNELHOP_STACK bytes left. No proof bounds a stack; the frames on x86-64 take less than half of that. */
+#ifndef KERNELHOP_H
+#define KERNELHOP_H
+
+#include <stddef.h>
+#include <stdint.h>
+
+#ifdef __cplusplus
+extern "C" {
+#endif
+
+/* number 0: an answer, and value says which (below, at each call).
+   number KERNELHOP_NONE: only from kernelhop_judge and kernelhop_answer_card: no product of at most n factors is the target; value is n.
+   number 1 to 16: refused by that question; value is the place that it names, or 0. */
+struct kernelhop_outcome {
+    uint8_t number;
+    size_t value;
+};
+
+enum {
+    KERNELHOP_NONE = 255,
+    KERNELHOP_FORM = 80, /* room for the normal form of a matrix */
+    KERNELHOP_STACK = 65536
+};
+
+/* Writes the normal form of the word to the front of `out`; value is its length. The bytes behind it remain.
+   Asks: 8, at most 4,096 letters; 10, every letter R or S (place: the first that is not); 14, out_len at least word_len. */
+struct kernelhop_outcome kernelhop_reduce(const uint8_t *word, size_t word_len, uint8_t *out, size_t out_len);
+
+/* Writes the normal form of the word's inverse to the front of `out`; value is its length. The bytes behind it remain.
+   Asks: 8 and 10 as reduction does; 14, out_len at least twice word_len. */
+struct kernelhop_outcome kernelhop_invert(const uint8_t *word, size_t word_len, uint8_t *out, size_t out_len);
+
+/* Writes the word's matrix (a b; c d) to `out`, in this order; value is 0. R is (0 -1; 1 0) and S is (1 -1; 1 0); of the two signs it is the one
+   whose first non-zero entry among a, b is positive. `out` is never null.
+   Asks: 8 and 10 as reduction does; 12, a normal form of at most 80 letters; 16, each entry from -2147483647 to 2147483647. */
+struct kernelhop_outcome kernelhop_word_to_matrix(const uint8_t *word, size_t word_len, int64_t out[4]);
+
+/* Writes the normal form of the matrix (a b; c d), taken up to sign, to the front of `out`; value is its length. The bytes behind it remain.
+   Asks: 5, each entry from -2147483647 to 2147483647 (place: the first that is not, 0 to 3); 6, determinant 1; 12, a normal form of at most 80
+   letters; 14, out_len at least KERNELHOP_FORM. */
+struct kernelhop_outcome kernelhop_matrix_to_word(int64_t a, int64_t b, int64_t c, int64_t d, uint8_t *out, size_t out_len);
+
+/* Is the target a product of at most n generators? `bytes` has the generators' letters, one behind the other, and generator i, from 0, runs from
+   ends[i - 1] (0 for the first) up to ends[i]. A generator may be empty.
+   A member: value is k, the least number of factors, and the first k bytes of `witness` are generator numbers whose words, written one behind the
+   other, equal the target by the two rules. Which of several least series they are is left free. The rest of `witness` remains; for none all of it.
+   With m the sum of the lengths of the generators' normal forms, t the length of the target's, and q = m + 2 * t + 1: after a member or none the
+   first q * q entries of both tables are 0 and the others remain, whatever stood there. kernelhop_reduce tells the lengths.
+   Asks: 7, at most 64 generators; 8, at most 4,096 letters in the list and in the target; 9, ends that never fall, the last of them bytes_len
+   (place: the first that falls, else ends_len); 10, every letter R or S (place: the first that is not; the target's count on from the list's); 11,
+   each generator's normal form at most 80 letters, and the sum up to it at most 320 (place: the first generator where it fails); 12, the target's
+   at most 80; 13, n at most 1,000; 14, witness_len at least n; 15, first_len and second_len at least q * q. */
+struct kernelhop_outcome kernelhop_judge(const uint8_t *bytes, size_t bytes_len, const uint16_t *ends, size_t ends_len, const uint8_t *target,
+                                         size_t target_len, uint16_t n, uint16_t *first, size_t first_len, uint16_t *second, size_t second_len,
+                                         uint8_t *witness, size_t witness_len);
+
+/* The same for the list, the target and n that a query card says; the program `verdict` prints its answer as a line. 16-bit numbers and matrix
+   entries have the low byte first. A matrix as the target is its normal form.
+   Asks: 1, at most 8,326 bytes; 2, a first byte with bits 4 to 7 clear and not both bits 1 and 2; 3, every field whole (place: the card's length);
+   4, no byte behind the last field (place: the first); for a matrix 5 and 6 as above; then 7 to 15 as kernelhop_judge does. */
+struct kernelhop_outcome kernelhop_answer_card(const uint8_t *card, size_t card_len, uint16_t *first, size_t first_len, uint16_t *second,
+                                               size_t second_len, uint8_t *witness, size_t witness_len);
+
+#ifdef __cplusplus
+}
+#endif
+
+#endif

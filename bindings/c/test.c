@@ -1,0 +1,166 @@
+/* Calls each function of kernelhop.h on worked values, on what it refuses, and at length 0, with as much stack as the header asks for. Prints one line,
+   and ends non-zero where a check fails. */
+#include "kernelhop.h"
+
+#include <pthread.h>
+#include <stdio.h>
+#include <stdlib.h>
+#include <string.h>
+
+static int checks;
+static int failures;
+
+static void check(int holds, int line, const char *text) {
+    checks++;
+    if (!holds) {
+        failures++;
+        fprintf(stderr, "test.c:%d: not so: %s\n", line, text);
+    }
+}
+
+#define CHECK(holds) check((holds), __LINE__, #holds)
+
+static int is(struct kernelhop_outcome outcome, int number, size_t value) {
+    return outcome.number == number && outcome.value == value;
+}
+
+static struct kernelhop_outcome reduce(const char *word, char *out, size_t out_len) {
+    return kernelhop_reduce((const uint8_t *)word, strlen(word), (uint8_t *)out, out_len);
+}
+
+static struct kernelhop_outcome invert(const char *word, char *out, size_t out_len) {
+    return kernelhop_invert((const uint8_t *)word, strlen(word), (uint8_t *)out, out_len);
+}
+
+static struct kernelhop_outcome word_to_matrix(const char *word, int64_t out[4]) {
+    return kernelhop_word_to_matrix((const uint8_t *)word, strlen(word), out);
+}
+
+static void words(void) {
+    char out[16] = "xxxxxxxxxxxxxxx";
+    CHECK(is(reduce("RR", out, 2), 0, 0) && out[0] == 'x');
+    CHECK(is(reduce("SSSS", out, 16), 0, 1) && memcmp(out, "Sx", 2) == 0);
+    CHECK(is(invert("SR", out, 16), 0, 3) && memcmp(out, "RSSx", 4) == 0);
+    CHECK(is(reduce("SRTS", out, 16), 10, 2));
+    CHECK(is(reduce("SRS", out, 2), 14, 0));
+    CHECK(is(invert("SR", out, 3), 14, 0));
+    CHECK(memcmp(out, "RSSxxxxxxxxxxxx", 15) == 0);
+    CHECK(is(kernelhop_reduce(NULL, 0, NULL, 0), 0, 0));
+    CHECK(is(kernelhop_invert(NULL, 0, NULL, 0), 0, 0));
+
+    static uint8_t many[4097];
+    static uint8_t room[4097];
+    memset(many, 'S', sizeof many);
+    CHECK(is(kernelhop_reduce(many, 4096, room, 4096), 0, 1));
+    CHECK(is(kernelhop_reduce(many, 4097, room, 4097), 8, 0));
+}
+
+static void matrices(void) {
+    int64_t m[4] = {7, 7, 7, 7};
+    CHECK(is(word_to_matrix("TR", m), 10, 0));
+    CHECK(m[0] == 7 && m[1] == 7 && m[2] == 7 && m[3] == 7);
+    CHECK(is(word_to_matrix("S", m), 0, 0));
+    CHECK(m[0] == 1 && m[1] == -1 && m[2] == 1 && m[3] == 0);
+    CHECK(is(word_to_matrix("SR", m), 0, 0));
+    CHECK(m[0] == 1 && m[1] == 1 && m[2] == 0 && m[3] == 1);
+    CHECK(is(kernelhop_word_to_matrix(NULL, 0, m), 0, 0));
+    CHECK(m[0] == 1 && m[1] == 0 && m[2] == 0 && m[3] == 1);
+
+    uint8_t out[KERNELHOP_FORM];
+    CHECK(is(kernelhop_matrix_to_word(1, 0, 1, 1, out, sizeof out), 0, 3) && memcmp(out, "SSR", 3) == 0);
+    CHECK(is(kernelhop_matrix_to_word(1, 40, 0, 1, out, sizeof out), 0, 80));
+    CHECK(is(kernelhop_matrix_to_word(1, 41, 0, 1, out, sizeof out), 12, 0));
+    CHECK(is(kernelhop_matrix_to_word(1, -26, 0, 1, out, sizeof out), 0, 78));
+    CHECK(is(kernelhop_matrix_to_word(1, -27, 0, 1, out, sizeof out), 12, 0));
+    CHECK(is(kernelhop_matrix_to_word(1, INT64_MIN, 0, 1, out, sizeof out), 5, 1));
+    CHECK(is(kernelhop_matrix_to_word(1, 0, 0, -1, out, sizeof out), 6, 0));
+    CHECK(is(kernelhop_matrix_to_word(1, 0, 0, 1, out, sizeof out - 1), 14, 0));
+    CHECK(is(kernelhop_matrix_to_word(1, 0, 0, 1, NULL, 0), 14, 0));
+}
+
+static size_t normal_length(const char *word) {
+    char out[64];
+    return reduce(word, out, sizeof out).value;
+}
+
+static int all_are(const uint16_t *table, size_t from, size_t to, uint16_t value) {
+    for (size_t i = from; i < to; i++) {
+        if (table[i] != value) {
+            return 0;
+        }
+    }
+    return 1;
+}
+
+/* Generators RSRS, S and SRSS: R is a product of all three, and of no two. The tables have an entry more than is needed, which remains. */
+static void verdicts(void) {
+    const char *list = "RSRSSSRSS";
+    const uint16_t ends[] = {4, 5, 9};
+    size_t m = normal_length("RSRS") + normal_length("S") + normal_length("SRSS");
+    size_t q = m + 2 * normal_length("R") + 1;
+    size_t len = q * q + 1;
+    uint16_t *first = malloc(len * sizeof *first);
+    uint16_t *second = malloc(len * sizeof *second);
+    if (first == NULL || second == NULL) {
+        fprintf(stderr, "no memory\n");
+        exit(2);
+    }
+    for (size_t i = 0; i < len; i++) {
+        first[i] = second[i] = 65535;
+    }
+    uint8_t witness[4] = {9, 9, 9, 9};
+    const uint8_t *bytes = (const uint8_t *)list;
+    const uint8_t *target = (const uint8_t *)"R";
+
+    CHECK(is(kernelhop_judge(bytes, 9, ends, 3, target, 1, 3, first, q * q - 1, second, q * q, witness, 4), 15, 0));
+    CHECK(is(kernelhop_judge(bytes, 9, ends, 3, target, 1, 3, first, q * q, second, q * q - 1, witness, 4), 15, 0));
+    CHECK(is(kernelhop_judge(bytes, 9, ends, 3, target, 1, 3, first, q * q, second, q * q, witness, 2), 14, 0));
+    CHECK(is(kernelhop_judge(bytes, 8, ends, 3, target, 1, 3, first, q * q, second, q * q, witness, 4), 9, 3));
+    CHECK(all_are(first, 0, len, 65535) && all_are(second, 0, len, 65535) && witness[0] == 9);
+
+    CHECK(is(kernelhop_judge(bytes, 9, ends, 3, target, 1, 2, first, len, second, len, witness, 4), KERNELHOP_NONE, 2));
+    CHECK(witness[0] == 9);
+    CHECK(is(kernelhop_judge(bytes, 9, ends, 3, target, 1, 3, first, len, second, len, witness, 4), 0, 3));
+    CHECK(witness[0] == 0 && witness[1] == 1 && witness[2] == 2 && witness[3] == 9);
+    CHECK(all_are(first, 0, q * q, 0) && first[q * q] == 65535);
+    CHECK(all_are(second, 0, q * q, 0) && second[q * q] == 65535);
+
+    /* An empty list and an empty target: q is 1. */
+    CHECK(is(kernelhop_judge(NULL, 0, NULL, 0, NULL, 0, 0, first, 1, second, 1, NULL, 0), 0, 0));
+    CHECK(is(kernelhop_judge(NULL, 0, NULL, 0, NULL, 0, 0, NULL, 0, NULL, 0, NULL, 0), 15, 0));
+    free(first);
+    free(second);
+}
+
+static void cards(void) {
+    const uint8_t card[] = {0x0B, 3, 0, 6, 0, 'S', 'R', 'S', 'R', 'S', 'R', 1, 2, 0, 'S', 'R'};
+    uint16_t first[225] = {0};
+    uint16_t second[225] = {0};
+    uint8_t witness[3] = {9, 9, 9};
+    CHECK(is(kernelhop_answer_card(card, sizeof card, first, 224, second, 225, witness, 3), 15, 0));
+    CHECK(is(kernelhop_answer_card(card, sizeof card - 1, first, 225, second, 225, witness, 3), 3, 15));
+    CHECK(is(kernelhop_answer_card(NULL, 0, NULL, 0, NULL, 0, NULL, 0), 2, 0));
+    CHECK(witness[0] == 9);
+    CHECK(is(kernelhop_answer_card(card, sizeof card, first, 225, second, 225, witness, 3), 0, 3));
+    CHECK(witness[0] == 0 && witness[1] == 0 && witness[2] == 0);
+}
+
+static void *all(void *nothing) {
+    words();
+    matrices();
+    verdicts();
+    cards();
+    return nothing;
+}
+
+int main(void) {
+    pthread_attr_t small;
+    pthread_t thread;
+    if (pthread_attr_init(&small) != 0 || pthread_attr_setstacksize(&small, KERNELHOP_STACK) != 0 ||
+        pthread_create(&thread, &small, all, NULL) != 0 || pthread_join(thread, NULL) != 0) {
+        fprintf(stderr, "no thread with a stack of %d bytes\n", KERNELHOP_STACK);
+        return 2;
+    }
+    printf("%d checks, %d failed\n", checks, failures);
+    return failures != 0;
+}

@@ -1,0 +1,64 @@
+// An answer told by two numbers.
+use crate::Outcome;
+use answers::Answer;
+use engine::Verdict;
+use words::Refusal;
+use words::Written;
+ghost use mathlib.Core.Path.{_≡_};
+ghost use Rattle.kernelhop.specs.Outcome.{ofRefusal, ofWritten, ofVerdict, ofAnswer};
+
+// The number that stands for none: no question has it.
+const NONE: u8 = 255;
+
+pub(crate) fn refusal(refusal: Refusal) -> Outcome
+    ensures { λ r. ⌜ r ≡ ofRefusal refusal ⌝ }
+{
+    Outcome {
+        number: words::questions::number(refusal),
+        value: words::questions::place(refusal),
+    }
+}
+
+pub(crate) fn written(answer: Written) -> Outcome
+    ensures { λ r. ⌜ r ≡ ofWritten answer ⌝ }
+{
+    match answer {
+        Written::Length(letters) => Outcome {
+            number: 0,
+            value: letters.0 as usize,
+        },
+        Written::Refused(why) => refusal(why),
+    }
+}
+
+pub(crate) fn verdict(n: u16, answer: Verdict) -> Outcome
+    ensures { λ r. ⌜ r ≡ ofVerdict n answer ⌝ }
+{
+    match answer {
+        Verdict::Member(count) => Outcome {
+            number: 0,
+            value: count.0 as usize,
+        },
+        Verdict::None => Outcome {
+            number: NONE,
+            value: n as usize,
+        },
+        Verdict::Refused(why) => refusal(why),
+    }
+}
+
+pub(crate) fn card(answer: Answer) -> Outcome
+    ensures { λ r. ⌜ r ≡ ofAnswer answer ⌝ }
+{
+    match answer {
+        Answer::Member(count) => Outcome {
+            number: 0,
+            value: count.0 as usize,
+        },
+        Answer::None(n) => Outcome {
+            number: NONE,
+            value: n.0 as usize,
+        },
+        Answer::Refused(why) => refusal(why),
+    }
+}
