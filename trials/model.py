@@ -213,7 +213,7 @@ def side(generators, target):
     return sum(len(normal_form(generator)) for generator in generators) + 2 * len(normal_form(target)) + 1
 
 
-def verdict(generators, target, n, tables, room):
+def verdict(generators, target, n, tables, room, cap=200_000):
     """The least series, as an iterator that is empty for none. The target is letters or a matrix; `tables` are the tables' two lengths."""
     letters = b"".join(generators)
     is_matrix = isinstance(target, tuple)
@@ -229,17 +229,17 @@ def verdict(generators, target, n, tables, room):
     ask(13, n <= 1000)
     ask(14, room >= n)
     ask(15, min(tables) >= side(generators, word) ** 2)
-    return least_series(generators, word, n)
+    return least_series(generators, word, n, cap=cap)
 
 
-def list_verdict(letters, ends, target, n, tables, room):
+def list_verdict(letters, ends, target, n, tables, room, cap=200_000):
     """The verdict on a list of letters with its ends: generator i runs from the end before it, or 0, up to its own end."""
     ask(7, len(ends) <= 64)
     ask(8, len(letters) <= 4096 and len(target) <= 4096)
     starts = [0, *ends][: len(ends)]
     ask_each(9, (start <= end for start, end in zip(starts, ends)))
     ask(9, len(letters) == (ends[-1] if ends else 0), place=len(ends))
-    return verdict([letters[start:end] for start, end in zip(starts, ends)], target, n, tables, room)
+    return verdict([letters[start:end] for start, end in zip(starts, ends)], target, n, tables, room, cap)
 
 
 # ---- the query card and its program

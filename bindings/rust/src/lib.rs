@@ -16,12 +16,12 @@
 //! # Ok::<(), kernelhop::Refusal>(())
 //! ```
 
-mod raw;
+pub mod lent;
 mod refusal;
 
 pub use refusal::Refusal;
 
-use raw::{Lent, Outcome};
+use lent::Judged;
 
 /// Whether the target is a product of at most n generators.
 #[derive(Clone, Debug, PartialEq, Eq)]
@@ -44,59 +44,54 @@ const LARGEST_BOUND: usize = 1000;
 /// Question 15, whether the tables are long enough, is the last one that a verdict asks.
 const TABLES: u8 = 15;
 
-fn value(outcome: Outcome) -> Result<usize, Refusal> {
-    match outcome.number {
-        0 => Ok(outcome.value),
-        number => Err(Refusal::new(number, outcome.value)),
+/// What a verdict is worked out in: two tables of `side` times `side` entries, and room for `bound` factors.
+fn room(side: usize, bound: usize) -> (Vec<u16>, Vec<u16>, Vec<u8>) {
+    let table = vec![0; side * side];
+    (table.clone(), table, vec![0; bound])
+}
+
+fn verdict_of(judged: Judged, witness: &[u8]) -> Verdict {
+    match judged {
+        Judged::Member { count } => Verdict::Member {
+            factors: witness[..count].iter().map(|&j| usize::from(j)).collect(),
+        },
+        Judged::None { n } => Verdict::None { n },
     }
 }
 
-fn judged(outcome: Outcome, witness: &[u8]) -> Result<Verdict, Refusal> {
-    if outcome.number == raw::NONE {
-        return Ok(Verdict::None {
-            n: outcome.value as u16,
-        });
-    }
-    let count = value(outcome)?;
-    let factors = witness[..count].iter().map(|&j| usize::from(j)).collect();
-    Ok(Verdict::Member { factors })
-}
-
-/// The word that a call wrote to the front of `out`.
-fn written(outcome: Outcome, out: &[u8]) -> Result<String, Refusal> {
-    let length = value(outcome)?;
-    Ok(out[..length]
-        .iter()
-        .map(|&letter| char::from(letter))
-        .collect())
+fn text(letters: &[u8]) -> String {
+    letters.iter().map(|&letter| char::from(letter)).collect()
 }
 
 /// The normal form of a word. Asks questions 8 and 10.
 pub fn reduce(word: impl AsRef<[u8]>) -> Result<String, Refusal> {
     let word = word.as_ref();
     let mut out = vec![0; word.len()];
-    written(raw::reduce(word, &mut out), &out)
+    let length = lent::reduce(word, &mut out)?;
+    Ok(text(&out[..length]))
 }
 
 /// The normal form of a word's inverse. Asks questions 8 and 10.
 pub fn invert(word: impl AsRef<[u8]>) -> Result<String, Refusal> {
     let word = word.as_ref();
     let mut out = vec![0; 2 * word.len()];
-    written(raw::invert(word, &mut out), &out)
+    let length = lent::invert(word, &mut out)?;
+    Ok(text(&out[..length]))
 }
 
 /// The matrix (a b; c d) of a word, as [a, b, c, d]: of the two signs the one whose first non-zero entry among a, b is positive. Asks questions 8, 10, 12
 /// and 16.
 pub fn word_to_matrix(word: impl AsRef<[u8]>) -> Result<[i64; 4], Refusal> {
     let mut matrix = [0; 4];
-    value(raw::word_to_matrix(word.as_ref(), &mut matrix))?;
+    lent::word_to_matrix(word.as_ref(), &mut matrix)?;
     Ok(matrix)
 }
 
 /// The normal form of a matrix [a, b, c, d] of determinant 1, taken up to sign. Asks questions 5, 6 and 12.
 pub fn matrix_to_word(matrix: [i64; 4]) -> Result<String, Refusal> {
     let mut out = [0; FORM];
-    written(raw::matrix_to_word(matrix, &mut out), &out)
+    let length = lent::matrix_to_word(matrix, &mut out)?;
+    Ok(text(&out[..length]))
 }
 
 /// Is the target a product of at most n of the generators? Asks questions 7 to 13.
@@ -113,15 +108,24 @@ pub fn verdict(
         // An end that does not fit stands behind more than 4,096 letters: question 7 or 8 refuses before an end is looked at.
         ends.push(u16::try_from(bytes.len()).unwrap_or(u16::MAX));
     }
-    let bound = usize::from(n);
-    let mut lent = Lent::new(0, bound);
-    let mut outcome = raw::judge(&bytes, &ends, target, n, &mut lent);
+    let judge = |side| -> Result<Verdict, Refusal> {
+        let (mut first, mut second, mut witness) = room(side, usize::from(n));
+        let judged = lent::judge(
+            &bytes,
+            &ends,
+            target,
+            n,
+            &mut first,
+            &mut second,
+            &mut witness,
+        )?;
+        Ok(verdict_of(judged, &witness))
+    };
     // q is at least 1, so without tables question 15 refuses at the latest. Where an earlier one does, no table has to be made.
-    if outcome.number == TABLES {
-        lent = Lent::new(side(generators, target)?, bound);
-        outcome = raw::judge(&bytes, &ends, target, n, &mut lent);
+    match judge(0) {
+        Err(refusal) if refusal.number() == TABLES => judge(side(generators, target)?),
+        answer => answer,
     }
-    judged(outcome, &lent.witness)
 }
 
 /// q = m + 2t + 1, with m the sum of the lengths of the generators' normal forms and t the length of the target's.
@@ -135,6 +139,7 @@ fn side(generators: &[impl AsRef<[u8]>], target: &[u8]) -> Result<usize, Refusal
 
 /// The verdict that a query card asks for. Asks questions 1 to 13.
 pub fn answer_card(card: &[u8]) -> Result<Verdict, Refusal> {
-    let mut lent = Lent::new(LARGEST_SIDE, LARGEST_BOUND);
-    judged(raw::answer_card(card, &mut lent), &lent.witness)
+    let (mut first, mut second, mut witness) = room(LARGEST_SIDE, LARGEST_BOUND);
+    let judged = lent::answer_card(card, &mut first, &mut second, &mut witness)?;
+    Ok(verdict_of(judged, &witness))
 }

@@ -1,6 +1,8 @@
 //! The package's functions on worked values, edges, and what they refuse.
 
-use kernelhop::{answer_card, invert, matrix_to_word, reduce, verdict, word_to_matrix, Verdict};
+use kernelhop::{
+    answer_card, invert, lent, matrix_to_word, reduce, verdict, word_to_matrix, Verdict,
+};
 
 fn member(factors: &[usize]) -> Verdict {
     Verdict::Member {
@@ -126,4 +128,48 @@ fn a_refusal_in_words() {
         refusal.to_string(),
         "refused by question 10, place 2: a letter is not R or S"
     );
+}
+
+/// What is lent: a refusal leaves it, and a verdict leaves zeros in the front of the tables and the rest of everything.
+#[test]
+fn lent_slices() {
+    let mut first = [7; 230];
+    let mut second = [7; 226];
+    let mut witness = [9; 5];
+    // P11: q is 4 + 1 + 4 + 2 + 1 = 12.
+    let judged = lent::judge(
+        b"RSRSSSRSS",
+        &[4, 5, 9],
+        b"R",
+        3,
+        &mut first,
+        &mut second,
+        &mut witness,
+    );
+    assert_eq!(judged, Ok(lent::Judged::Member { count: 3 }));
+    assert_eq!(witness, [0, 1, 2, 9, 9]);
+    assert!(first[..144]
+        .iter()
+        .chain(&second[..144])
+        .all(|&entry| entry == 0));
+    assert!(first[144..]
+        .iter()
+        .chain(&second[144..])
+        .all(|&entry| entry == 7));
+    let falling = lent::judge(
+        b"RS",
+        &[2, 1],
+        b"R",
+        3,
+        &mut first,
+        &mut second,
+        &mut witness,
+    );
+    assert_eq!(refused(falling), (9, 1));
+    assert_eq!(witness, [0, 1, 2, 9, 9]);
+    let mut out = [b'x'; 4];
+    assert_eq!(lent::reduce(b"SRRS", &mut out), Ok(2));
+    assert_eq!(&out, b"SSxx");
+    assert_eq!(refused(lent::invert(b"SRR", &mut out)), (14, 0));
+    assert_eq!(&out, b"SSxx");
 }

@@ -1,59 +1,27 @@
-//! Measures the proved verdict against the same method in plain Rust, in one process: both get the same calls in turn, and must give the same
-//! verdict and count. Prints tables in Markdown.
+//! Measures the proved verdict against the same method in plain Rust, in one process: both get the same calls in turn, and must give the same verdict and
+//! count. Prints tables in Markdown, and writes a plot to the file that the first argument names: both of these and a walk of the group.
 
+mod plot;
 mod reference;
 
+use kernelhop::lent::{judge, Judged};
+use kernelhop_trials::{element::Element, erasing::normal_form, walk::least_counts};
 use reference::Verdict;
 
-/// As in the crate `kernelhop`: 0 and the count of a member, 255 and n for none, or a refusal's number and its place.
-#[repr(C)]
-struct Outcome {
-    number: u8,
-    value: usize,
-}
-
-// The static library of `kernelhop`. A slice that is lent is a pointer and a length there.
-extern "C" {
-    fn kernelhop_judge(
-        bytes: *const u8,
-        bytes_len: usize,
-        ends: *const u16,
-        ends_len: usize,
-        target: *const u8,
-        target_len: usize,
-        n: u16,
-        first: *mut u16,
-        first_len: usize,
-        second: *mut u16,
-        second_len: usize,
-        witness: *mut u8,
-        witness_len: usize,
-    ) -> Outcome;
-}
-
 fn proved(call: &Call, lent: &mut Lent) -> Verdict {
-    // Each pointer comes with the length of its own slice, and the slices that are written are borrowed mutably.
-    let outcome = unsafe {
-        kernelhop_judge(
-            call.bytes.as_ptr(),
-            call.bytes.len(),
-            call.ends.as_ptr(),
-            call.ends.len(),
-            call.target.as_ptr(),
-            call.target.len(),
-            call.n,
-            lent.first.as_mut_ptr(),
-            lent.first.len(),
-            lent.second.as_mut_ptr(),
-            lent.second.len(),
-            lent.witness.as_mut_ptr(),
-            lent.witness.len(),
-        )
-    };
-    match (outcome.number, outcome.value) {
-        (0, count) => Verdict::Member(count as u16),
-        (255, _) => Verdict::None,
-        (number, place) => Verdict::Refused(number, place),
+    let answer = judge(
+        &call.bytes,
+        &call.ends,
+        &call.target,
+        call.n,
+        &mut lent.first,
+        &mut lent.second,
+        &mut lent.witness,
+    );
+    match answer {
+        Ok(Judged::Member { count }) => Verdict::Member(count as u16),
+        Ok(Judged::None { .. }) => Verdict::None,
+        Err(refusal) => Verdict::Refused(refusal.number(), refusal.place()),
     }
 }
 
@@ -176,27 +144,25 @@ fn small_call(random: &mut Random) -> (Call, Lent) {
     (call, lent)
 }
 
-fn normal_form(word: &[u8]) -> Vec<u8> {
-    let mut form = Vec::new();
-    for &letter in word {
-        form.push(letter);
-        if form.ends_with(b"RR") {
-            form.truncate(form.len() - 2);
-        } else if form.ends_with(b"SSS") {
-            form.truncate(form.len() - 3);
-        }
+impl Call {
+    fn generator(&self, j: usize) -> &[u8] {
+        let from = if j == 0 { 0 } else { self.ends[j - 1] as usize };
+        &self.bytes[from..self.ends[j] as usize]
     }
-    form
-}
 
-/// Whether the factors multiply to the target.
-fn reaches(call: &Call, factors: &[u8]) -> bool {
-    let from = |j: usize| if j == 0 { 0 } else { call.ends[j - 1] as usize };
-    let product = factors.iter().fold(Vec::new(), |mut product, &j| {
-        product.extend(&call.bytes[from(j as usize)..call.ends[j as usize] as usize]);
-        normal_form(&product)
-    });
-    product == normal_form(&call.target)
+    /// Whether the factors multiply to the target.
+    fn reached_by(&self, factors: &[u8]) -> bool {
+        let product = factors.iter().fold(Vec::new(), |product: Vec<u8>, &j| {
+            normal_form(&[&product, self.generator(j as usize)].concat())
+        });
+        product == normal_form(&self.target)
+    }
+
+    fn elements(&self) -> Vec<Element> {
+        (0..self.ends.len())
+            .map(|j| Element::of_word(self.generator(j)))
+            .collect()
+    }
 }
 
 /// Both on one call: the same verdict and count, witnesses that reach the target, and the same in the lent slices but for the choice of the factors.
@@ -206,7 +172,9 @@ fn compare(call: &Call, lent: &Lent) -> Verdict {
     assert_eq!(verdict, plain(call, &mut theirs));
     if let Verdict::Member(count) = verdict {
         let count = count as usize;
-        assert!(reaches(call, &ours.witness[..count]) && reaches(call, &theirs.witness[..count]));
+        assert!(
+            call.reached_by(&ours.witness[..count]) && call.reached_by(&theirs.witness[..count])
+        );
         ours.witness[..count].fill(0);
         theirs.witness[..count].fill(0);
     }
@@ -252,9 +220,9 @@ fn now() -> f64 {
     time.seconds as f64 * 1e3 + time.nanoseconds as f64 / 1e6
 }
 
-fn timed(judge: fn(&Call, &mut Lent) -> Verdict, call: &Call, lent: &mut Lent) -> f64 {
+fn timed<T>(run: impl FnOnce() -> T) -> f64 {
     let start = now();
-    std::hint::black_box(judge(std::hint::black_box(call), lent));
+    std::hint::black_box(run());
     now() - start
 }
 
@@ -276,7 +244,9 @@ fn measure(call: &Call, lent: &mut Lent) -> Measured {
     let mut times = Vec::new();
     let start = now();
     while times.len() < 11 || (now() - start < 2000.0 && times.len() < 2001) {
-        times.push((timed(proved, call, lent), timed(plain, call, lent)));
+        let ours = timed(|| proved(std::hint::black_box(call), lent));
+        let theirs = timed(|| plain(std::hint::black_box(call), lent));
+        times.push((ours, theirs));
     }
     Measured {
         proved: median(times.iter().map(|&(ours, _)| ours)),
@@ -337,7 +307,59 @@ fn growth(
     println!();
 }
 
+/// The bound at which a walk of the group is measured: it visits as many elements as there are series of so many factors, a million for 32 generators.
+const WALK: u16 = 4;
+
+/// Whether the target is among the elements that a walk visits.
+fn walk_finds(call: &Call) -> bool {
+    let visited = least_counts(&call.elements(), usize::from(call.n));
+    visited.contains_key(&Element::of_word(&call.target))
+}
+
+fn print_lines(lines: &[plot::Line]) {
+    let heads: String = lines
+        .iter()
+        .map(|line| format!(" {}, ms |", line.name))
+        .collect();
+    println!("| m |{heads}\n|---{}|", "|---".repeat(lines.len()));
+    for (i, (m, _)) in lines[0].points.iter().enumerate() {
+        let times: String = lines
+            .iter()
+            .map(|line| format!(" {:.3} |", line.points[i].1))
+            .collect();
+        println!("| {m} |{times}");
+    }
+}
+
+/// Lists of generators of 10 letters, and a target that none of their short products is.
+fn over_m(lent: &mut Lent) -> Vec<plot::Line> {
+    let mut lines = [
+        ("proved", "#c0392b"),
+        ("plain Rust", "#2471a3"),
+        ("walk of the group", "#7d8c2e"),
+    ]
+    .map(|(name, colour)| plot::Line {
+        name,
+        colour,
+        points: Vec::new(),
+    });
+    for generators in (4..=32).step_by(4) {
+        let call = large_call(SEEDS[0], generators, 10, WALK);
+        let Measured { proved, plain, .. } = measure(&call, lent);
+        let walk = median((0..3).map(|_| timed(|| walk_finds(&call))));
+        for (line, time) in lines.iter_mut().zip([proved, plain, walk]) {
+            line.points.push((10.0 * generators as f64, time));
+        }
+        let member = matches!(compare(&call, lent), Verdict::Member(_));
+        assert_eq!(walk_finds(&call), member);
+    }
+    lines.into()
+}
+
 fn main() {
+    let plot = std::env::args()
+        .nth(1)
+        .expect("the first argument: the file of the plot");
     compare_small(20_000);
     let mut lent = Lent::new(481 * 481, 1000);
     println!("## m 320, t 80, n 1000\n");
@@ -356,4 +378,9 @@ fn main() {
         |generators, letters, n| large_call(SEEDS[0], generators, letters, n as u16),
         &mut lent,
     );
+    println!("## Beside a walk of the group: generators of 10 letters, t 80, n {WALK}\n");
+    let lines = over_m(&mut lent);
+    print_lines(&lines);
+    let title = format!("A verdict on generators of 10 letters, t 80, n {WALK}");
+    std::fs::write(&plot, plot::svg(&title, &lines)).expect("the plot is written");
 }

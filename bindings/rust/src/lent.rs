@@ -1,0 +1,154 @@
+//! The calls on slices that the caller lends, for those who make many calls and keep the tables. Each takes slices of any length and any content: it answers,
+//! or it refuses, and a refusal changes nothing.
+//!
+//! All that is unsafe is here. The library takes for granted what a Rust slice is: a pointer that is aligned and valid for its length, entries that have been
+//! written, and, of two slices, no overlap where one of them is mutable.
+
+use crate::Refusal;
+
+/// An answer: 0 and its value. None: `NONE` and n. A refusal: the question's number, from 1 to 16, and its place.
+#[repr(C)]
+struct Outcome {
+    number: u8,
+    value: usize,
+}
+
+const NONE: u8 = 255;
+
+extern "C" {
+    fn kernelhop_reduce(word: *const u8, word_len: usize, out: *mut u8, out_len: usize) -> Outcome;
+    fn kernelhop_invert(word: *const u8, word_len: usize, out: *mut u8, out_len: usize) -> Outcome;
+    fn kernelhop_word_to_matrix(word: *const u8, word_len: usize, out: *mut [i64; 4]) -> Outcome;
+    fn kernelhop_matrix_to_word(
+        a: i64,
+        b: i64,
+        c: i64,
+        d: i64,
+        out: *mut u8,
+        out_len: usize,
+    ) -> Outcome;
+    fn kernelhop_judge(
+        bytes: *const u8,
+        bytes_len: usize,
+        ends: *const u16,
+        ends_len: usize,
+        target: *const u8,
+        target_len: usize,
+        n: u16,
+        first: *mut u16,
+        first_len: usize,
+        second: *mut u16,
+        second_len: usize,
+        witness: *mut u8,
+        witness_len: usize,
+    ) -> Outcome;
+    fn kernelhop_answer_card(
+        card: *const u8,
+        card_len: usize,
+        first: *mut u16,
+        first_len: usize,
+        second: *mut u16,
+        second_len: usize,
+        witness: *mut u8,
+        witness_len: usize,
+    ) -> Outcome;
+}
+
+/// A verdict whose factors stand in the lent witness.
+#[derive(Clone, Copy, Debug, PartialEq, Eq)]
+pub enum Judged {
+    /// A member: by the generators whose numbers are the first `count` bytes of the witness, and by no fewer.
+    Member { count: usize },
+    /// No product of at most n generators is the target.
+    None { n: u16 },
+}
+
+fn value(outcome: Outcome) -> Result<usize, Refusal> {
+    match outcome.number {
+        0 => Ok(outcome.value),
+        number => Err(Refusal::new(number, outcome.value)),
+    }
+}
+
+fn judged(outcome: Outcome) -> Result<Judged, Refusal> {
+    match outcome.number {
+        NONE => Ok(Judged::None {
+            n: outcome.value as u16,
+        }),
+        _ => Ok(Judged::Member {
+            count: value(outcome)?,
+        }),
+    }
+}
+
+/// Writes the normal form of a word to the front of `out`; the answer is its length. Asks questions 8, 10 and 14: room for as many letters as the word has.
+pub fn reduce(word: &[u8], out: &mut [u8]) -> Result<usize, Refusal> {
+    value(unsafe { kernelhop_reduce(word.as_ptr(), word.len(), out.as_mut_ptr(), out.len()) })
+}
+
+/// Writes the normal form of a word's inverse to the front of `out`; the answer is its length. Asks questions 8, 10 and 14: room for twice as many letters.
+pub fn invert(word: &[u8], out: &mut [u8]) -> Result<usize, Refusal> {
+    value(unsafe { kernelhop_invert(word.as_ptr(), word.len(), out.as_mut_ptr(), out.len()) })
+}
+
+/// Writes the matrix of a word. Asks questions 8, 10, 12 and 16.
+pub fn word_to_matrix(word: &[u8], out: &mut [i64; 4]) -> Result<(), Refusal> {
+    value(unsafe { kernelhop_word_to_matrix(word.as_ptr(), word.len(), out) })?;
+    Ok(())
+}
+
+/// Writes the normal form of a matrix to the front of `out`; the answer is its length. Asks questions 5, 6, 12 and 14: room for 80 letters.
+pub fn matrix_to_word([a, b, c, d]: [i64; 4], out: &mut [u8]) -> Result<usize, Refusal> {
+    value(unsafe { kernelhop_matrix_to_word(a, b, c, d, out.as_mut_ptr(), out.len()) })
+}
+
+/// The verdict on a list, which is the letters of its generators, one behind the other, and their ends. Asks questions 7 to 15. Of a witness that is lent only
+/// a member's factors are written; of each table the first q * q entries are 0 afterwards, and the others are as they were.
+pub fn judge(
+    bytes: &[u8],
+    ends: &[u16],
+    target: &[u8],
+    n: u16,
+    first: &mut [u16],
+    second: &mut [u16],
+    witness: &mut [u8],
+) -> Result<Judged, Refusal> {
+    judged(unsafe {
+        kernelhop_judge(
+            bytes.as_ptr(),
+            bytes.len(),
+            ends.as_ptr(),
+            ends.len(),
+            target.as_ptr(),
+            target.len(),
+            n,
+            first.as_mut_ptr(),
+            first.len(),
+            second.as_mut_ptr(),
+            second.len(),
+            witness.as_mut_ptr(),
+            witness.len(),
+        )
+    })
+}
+
+/// The verdict that a card asks for. Asks questions 1 to 15, and does to the lent slices what `judge` does.
+pub fn answer_card(
+    card: &[u8],
+    first: &mut [u16],
+    second: &mut [u16],
+    witness: &mut [u8],
+) -> Result<Judged, Refusal> {
+    judged(unsafe {
+        kernelhop_answer_card(
+            card.as_ptr(),
+            card.len(),
+            first.as_mut_ptr(),
+            first.len(),
+            second.as_mut_ptr(),
+            second.len(),
+            witness.as_mut_ptr(),
+            witness.len(),
+        )
+    })
+}

@@ -1,0 +1,186 @@
+//! Small lists, exhaustively: every list of up to 3 generators of up to 3 letters, every target of up to 6 letters and every bound up to 5. The library's
+//! verdict, its count, its factors and what it does to the lent slices are held to a walk of the group by matrices. Prints what was tried, and `0 differ`;
+//! where something differs it prints the first of them and exits with 1.
+
+use kernelhop::lent::{judge, Judged};
+use kernelhop_trials::{element::Element, erasing::normal_form, walk::least_counts, words::up_to};
+
+const GENERATORS: usize = 3;
+const LETTERS: usize = 3;
+const TARGET: usize = 6;
+const BOUND: u16 = 5;
+
+/// What stands in the lent slices before a call.
+const ENTRY: u16 = 65535;
+const BYTE: u8 = 255;
+
+/// How much longer than it must be each lent slice is.
+const MORE: usize = 2;
+
+struct Word {
+    letters: Vec<u8>,
+    element: Element,
+    /// The length of its normal form.
+    length: usize,
+}
+
+impl Word {
+    fn new(letters: Vec<u8>) -> Word {
+        Word {
+            element: Element::of_word(&letters),
+            length: normal_form(&letters).len(),
+            letters,
+        }
+    }
+}
+
+/// A list, with its letters and ends as the library takes them.
+struct List<'a> {
+    generators: &'a [&'a Word],
+    bytes: Vec<u8>,
+    ends: Vec<u16>,
+}
+
+impl<'a> List<'a> {
+    fn new(generators: &'a [&'a Word]) -> List<'a> {
+        let mut bytes = Vec::new();
+        let mut ends = Vec::new();
+        for generator in generators {
+            bytes.extend(&generator.letters);
+            ends.push(bytes.len() as u16);
+        }
+        List {
+            generators,
+            bytes,
+            ends,
+        }
+    }
+
+    fn elements(&self) -> Vec<Element> {
+        self.generators.iter().map(|word| word.element).collect()
+    }
+
+    /// Whether the library's answer is right, where `least` is the least number of factors up to the bound.
+    fn is_right(&self, target: &Word, n: u16, least: Option<usize>) -> bool {
+        let m: usize = self.generators.iter().map(|word| word.length).sum();
+        let q = m + 2 * target.length + 1;
+        let mut first = vec![ENTRY; q * q + MORE];
+        let mut second = vec![ENTRY; q * q + MORE];
+        let mut witness = vec![BYTE; usize::from(n) + MORE];
+        let answer = judge(
+            &self.bytes,
+            &self.ends,
+            &target.letters,
+            n,
+            &mut first,
+            &mut second,
+            &mut witness,
+        );
+        let expected = match least {
+            Some(count) => Judged::Member { count },
+            None => Judged::None { n },
+        };
+        let (factors, behind) = witness.split_at(least.unwrap_or(0));
+        let zeroed = |table: &[u16]| {
+            let (zeros, rest) = table.split_at(q * q);
+            zeros.iter().all(|&entry| entry == 0) && rest.iter().all(|&entry| entry == ENTRY)
+        };
+        answer == Ok(expected)
+            && (least.is_none() || self.product(factors) == Some(target.element))
+            && behind.iter().all(|&byte| byte == BYTE)
+            && zeroed(&first)
+            && zeroed(&second)
+    }
+
+    fn product(&self, factors: &[u8]) -> Option<Element> {
+        factors.iter().try_fold(Element::ONE, |product, &j| {
+            let generator = self.generators.get(usize::from(j))?;
+            Some(product.times(generator.element))
+        })
+    }
+}
+
+#[derive(Default)]
+struct Tried {
+    lists: usize,
+    /// The calls whose target is a member, by the least number of factors.
+    members: [usize; BOUND as usize + 1],
+    none: usize,
+    differ: usize,
+}
+
+impl Tried {
+    fn list(&mut self, generators: &[&Word], targets: &[Word]) {
+        let list = List::new(generators);
+        let counts = least_counts(&list.elements(), usize::from(BOUND));
+        for target in targets {
+            for n in 0..=BOUND {
+                let least = counts.get(&target.element).copied();
+                let least = least.filter(|&count| count <= usize::from(n));
+                match least {
+                    Some(count) => self.members[count] += 1,
+                    None => self.none += 1,
+                }
+                if !list.is_right(target, n, least) {
+                    self.differ += 1;
+                    if self.differ <= 10 {
+                        report(&list, target, n, least);
+                    }
+                }
+            }
+        }
+        self.lists += 1;
+    }
+
+    fn print(&self, generators: usize, targets: usize) {
+        let calls = self.none + self.members.iter().sum::<usize>();
+        println!(
+            "lists of {generators}: {} tried, with {targets} targets and {} bounds each; {calls} calls, {} none, members by count {:?}; {} differ",
+            self.lists,
+            BOUND + 1,
+            self.none,
+            self.members,
+            self.differ
+        );
+    }
+}
+
+fn report(list: &List, target: &Word, n: u16, least: Option<usize>) {
+    let text = |word: &[u8]| String::from_utf8_lossy(word).into_owned();
+    println!(
+        "differs: letters {}, ends {:?}, target {}, n {n}; the walk has {least:?}",
+        text(&list.bytes),
+        list.ends,
+        text(&target.letters)
+    );
+}
+
+/// Every list of so many of the words.
+fn lists(count: usize, words: &[Word]) -> Vec<Vec<&Word>> {
+    let mut lists = vec![Vec::new()];
+    for _ in 0..count {
+        lists = lists
+            .iter()
+            .flat_map(|list| words.iter().map(|word| [list.as_slice(), &[word]].concat()))
+            .collect();
+    }
+    lists
+}
+
+fn main() {
+    let generators: Vec<_> = up_to(LETTERS).into_iter().map(Word::new).collect();
+    let targets: Vec<_> = up_to(TARGET).into_iter().map(Word::new).collect();
+    let mut differ = 0;
+    for count in 0..=GENERATORS {
+        let mut tried = Tried::default();
+        for list in lists(count, &generators) {
+            tried.list(&list, &targets);
+        }
+        tried.print(count, targets.len());
+        differ += tried.differ;
+    }
+    println!("{differ} differ");
+    if differ > 0 {
+        std::process::exit(1);
+    }
+}
