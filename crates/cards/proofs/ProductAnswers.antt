@@ -19,8 +19,9 @@ use Rattle.words.proofs.NormalForm.{nf-of-normal}
 use Rattle.products.specs.Product.{generators}
 use Rattle.lists.specs.Questions.{ofList, question11}
 use Rattle.lists.specs.NormalList.{total}
+use Rattle.sizes.specs.Questions.{side, question13, question15, ofSizes}
 use Rattle.matrices.proofs.RoundTrip.{letters-only}
-use Rattle.engine.specs.Questions.{side, question13, question15, ofSizes, ofProduct}
+use Rattle.engine.specs.Questions.{ofProduct}
 use Rattle.engine.specs.Calls.{Lent, Judged}
 use Rattle.engine.specs.declared.Verdict.the-variants.{Refused as Verdict·Refused}
 use Rattle.answers.specs.declared.Answer.{Answer}

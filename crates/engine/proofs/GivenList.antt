@@ -19,7 +19,8 @@ use Rattle.lists.specs.Questions.{ofList, question11}
 use Rattle.lists.specs.NormalList.{total, normalBytes, normalEnds}
 use Rattle.lists.proofs.NormalList.{normal-bytes-length, normal-ends-length, normal-list, normal-ends-rise, normal-ends-within}
 use Rattle.lists.proofs.ReducedList.{total-short}
-use Rattle.engine.specs.Questions.{side, ofSizes, ofVerdict}
+use Rattle.sizes.specs.Questions.{side, ofSizes}
+use Rattle.engine.specs.Questions.{ofVerdict}
 use Rattle.engine.specs.Calls.{Lent, VerdictRight, Judged, Judges}
 use Rattle.engine.specs.Judging.{ReducedList, JudgesForm}
 use Rattle.engine.specs.declared.Verdict.{Verdict}

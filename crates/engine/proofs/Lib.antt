@@ -15,7 +15,6 @@ mod Walks
 mod Descending
 mod Deciding
 mod Spelled
-mod Sizes
 mod Verdicts
 mod LastRow
 mod Planting

@@ -10,16 +10,16 @@ use Rattle.words.specs.Bytes.{letter, word}
 use Rattle.products.specs.Product.{generators}
 use Rattle.products.specs.State.{LeastLead}
 use Rattle.products.proofs.Generators.{generators-length}
+use Rattle.sizes.specs.Questions.{side}
+use Rattle.sizes.proofs.Passing.{SizesPassed}
 use Rattle.trees.specs.Tree.{at, wordAt, Shape, Tree}
 use Rattle.trees.specs.Building.{Fits as TreeFits}
 use Rattle.tables.specs.Rules.{place}
 use Rattle.tables.specs.Filling.{Fits, Filled}
-use Rattle.engine.specs.Questions.{side}
 use Rattle.engine.specs.Path.{PathRows, PathFits}
 use Rattle.engine.specs.Witness.{Planted, Decided}
 use Rattle.engine.specs.Judging.{ReducedList}
 use Rattle.engine.proofs.Fitting.{path-fits}
-use Rattle.engine.proofs.Sizes.{SizesPassed}
 
 -- ---- from a reduced list to a tree
 

@@ -10,7 +10,8 @@ use Rattle.words.specs.declared.Asked.{Asked}
 use Rattle.words.specs.declared.Asked.the-variants.{Passed, Refused}
 use Rattle.products.specs.Product.{generators, NoneRight, MemberRight}
 use Rattle.lists.specs.NormalList.{total}
-use Rattle.engine.specs.Questions.{side, ofProduct}
+use Rattle.sizes.specs.Questions.{side}
+use Rattle.engine.specs.Questions.{ofProduct}
 use Rattle.engine.specs.declared.Verdict.{Verdict}
 use Rattle.engine.specs.declared.Verdict.the-variants.{Member, None, Refused as Verdict·Refused}
 

@@ -6,8 +6,8 @@ use lib.ListN.{length, drop}
 use Rattle.words.specs.Word.{Word}
 use Rattle.products.specs.Product.{generators}
 use Rattle.products.specs.State.{AllNormal}
+use Rattle.sizes.specs.Questions.{side, ofSizes}
 use Rattle.trees.specs.Tree.{at}
-use Rattle.engine.specs.Questions.{side, ofSizes}
 use Rattle.engine.specs.Calls.{Lent, VerdictRight, Judged}
 use Rattle.engine.specs.declared.Verdict.{Verdict}
 

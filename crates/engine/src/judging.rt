@@ -3,8 +3,6 @@
 use crate::Verdict;
 use crate::entries::cell;
 use crate::path::path;
-use crate::questions::of_sizes;
-use crate::questions::side;
 use crate::witness::write_witness;
 use crate::zeroing::zero;
 use trees::Built;
@@ -22,7 +20,7 @@ ghost use Rattle.words.specs.Bytes.{word};
 ghost use Rattle.words.specs.Questions.{ofLetters};
 ghost use Rattle.products.specs.Product.{generators};
 ghost use Rattle.lists.specs.Questions.{ofList};
-ghost use Rattle.engine.specs.Questions.{side, ofSizes};
+ghost use Rattle.sizes.specs.Questions.{side, ofSizes};
 ghost use Rattle.engine.specs.Calls.{VerdictRight, Judges};
 ghost use Rattle.engine.specs.Witness.{Planted, SomePlanted, Decided, SomeDecided};
 ghost use Rattle.engine.specs.Judging.{ReducedList, Settled, JudgesForm};
@@ -199,7 +197,7 @@ fn judge_form(
 {
     let m = letters.len() as u16;
     let t = form.len() as u16;
-    match of_sizes(
+    match sizes::of_sizes(
         Letters(m),
         Letters(t),
         n,
@@ -210,7 +208,7 @@ fn judge_form(
         Asked::Refused(refusal) => Verdict::Refused(refusal),
         Asked::Passed => {
             let verdict = decide(letters, ends, form, n, first, second, witness);
-            let q = side(Letters(m), Letters(t));
+            let q = sizes::side(Letters(m), Letters(t));
             zero(first, q * q);
             zero(second, q * q);
             verdict

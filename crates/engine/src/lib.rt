@@ -3,7 +3,6 @@ mod descent;
 mod entries;
 mod judging;
 mod path;
-mod questions;
 mod stack;
 mod tight;
 mod witness;

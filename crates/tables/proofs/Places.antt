@@ -1,6 +1,6 @@
 -- The places of pairs in a table with w rows and w columns: the only arithmetic with products. Assumes nothing.
 use mathlib.Core.Path.{_≡_, sym, ap, _∙_}
-use Prim.Native.Nat.{ℕ, _+_, _*_, _/_, _%_, _≤_, _<_}
+use Prim.Native.Nat.{ℕ, _+_, _-_, _*_, _/_, _%_, _≤_, _<_}
 use native.Mathlib.Nat.{mul-le-mul, mul-le-mul-right}
 use native.Mathlib.Omega.{arith}
 use lib.Arith.{digits-lt, digits-div, digits-mod}
@@ -8,6 +8,10 @@ use Rattle.tables.specs.Rules.{place}
 
 pub place-inside : {w x y : ℕ} → x < w → y < w → place w x y < w * w
 place-inside row column = digits-lt row column
+
+-- a row ends inside
+pub row-inside : {w x : ℕ} → x < w → x * w + w ≤ w * w
+row-inside {w} {x} row = let last : place w x (w - 1) < w * w = place-inside row (omega arith) in omega arith
 
 -- the largest table has 65,535 rows and columns
 pub square-bounded : {w : ℕ} → w ≤ 65535 → w * w ≤ 4294836225

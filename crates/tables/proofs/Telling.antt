@@ -17,6 +17,18 @@ pub tells-same : {P Q : Type 0} (r : Bool) → (P → Q) → (Q → P) → Tells
 tells-same true to from p = to p
 tells-same false to from p = λ q. p (from q)
 
+-- where Q is true, an answer tells of itself and Q together
+pub tells-with : {Q : Type 0} (r : Bool) → Q → Tells r ((r ≡ true) × Q)
+tells-with true q = (refl, q)
+tells-with false q = λ both. false≢true (both .0)
+
+-- P and Q are asked one after the other, to tell of R, which is both
+pub tells-both : {P Q R : Type 0} (so-far r : Bool) → (P → Q → R) → (R → P) → (R → Q) → Tells so-far P → Tells r ((so-far ≡ true) × Q) → Tells r R
+tells-both true true both to-p to-q p more = both p (more .1)
+tells-both true false both to-p to-q p more = λ all. more (refl, to-q all)
+tells-both false true both to-p to-q p more = absurd (false≢true (more .0))
+tells-both false false both to-p to-q p more = λ all. p (to-p all)
+
 pub tells-eqb : {P : Type 0} (a b : ℕ) → (a ≡ b → P) → (P → a ≡ b) → Tells (eqb a b) P
 tells-eqb {P} a b to from = by (eqb a b) (λ e. to (eqb-true a b e)) (λ p. eq-eqb a b (from p))
   where

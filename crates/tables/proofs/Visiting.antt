@@ -1,8 +1,10 @@
 -- What follows from a pass in which place after place is visited. Assumes that the rules lead forward.
-use mathlib.Core.Path.{_≡_, refl, ap, _∙_}
+use mathlib.Core.Path.{_≡_, refl, ap, subst, _∙_}
 use mathlib.Core.List.{List}
 use Prim.Native.Nat.{ℕ, _+_, _≤_, _<_}
 use native.Mathlib.Nat.{le-refl}
+use native.Mathlib.Decide.{le-ind}
+use native.Mathlib.Numerals.{add-one}
 use native.Mathlib.Omega.{arith}
 use lib.ListN.{length}
 use Rattle.levels.specs.Levels.{entry, Rules}
@@ -10,7 +12,7 @@ use Rattle.levels.specs.Passes.{Counts, Sound, Premise, Forward, Passed}
 use Rattle.levels.proofs.Relaxing.{lowers-falls, lowers-length}
 use Rattle.levels.proofs.Passing.{counts-relaxed, pass-skips, pass-relaxes, pass-sound}
 use Rattle.tables.specs.Relaxing.{Ready}
-use Rattle.tables.specs.Levelling.{Visited, relaxed, skipped, Passes, begin, visit}
+use Rattle.tables.specs.Levelling.{Visited, relaxed, skipped, Passes, begin, visit, Without}
 
 module _ {Rule : Rules} {k : ℕ} where
   visited-counts : {n N z : ℕ} {t t′ : List ℕ} → Counts n N t → 1 ≤ k → Visited Rule k z t t′ → Counts n N t′
@@ -37,6 +39,19 @@ module _ {Rule : Rules} {k : ℕ} where
   pub passes-ready : {w z : ℕ} {t t′ : List ℕ} → Ready w k t → Passes Rule k z t t′ → Ready w k t′
   passes-ready ready run =
       record { few = ready .few; positive = ready .positive; small = ready .small; counts = passes-counts (ready .counts) (ready .positive) run }
+
+  -- places without the level are passed over: to visit them changes nothing
+  pub passes-over : {z z′ : ℕ} {t t′ : List ℕ} → z ≤ z′ → Without k t′ z z′ → Passes Rule k z t t′ → Passes Rule k z′ t t′
+  passes-over {z} {z′} {t} {t′} later without run =
+      le-ind
+      (λ (m : ℕ). Without k t′ z m → Passes Rule k m t t′)
+      (λ none. run)
+      (λ m behind so-far none.
+      subst (λ (end : ℕ). Passes Rule k end t t′) (add-one m)
+      (visit (so-far (λ p inside. none p (omega arith))) (skipped (none m (omega arith) behind) refl)))
+      z′
+      later
+      without
 
   module _ {n N : ℕ} (rules : Forward Rule N) (positive : 1 ≤ k) where
     visited-passed : {z : ℕ} {t t′ : List ℕ} → Counts n N t → Visited Rule k z t t′ → Passed Rule t k z → Passed Rule t′ k (z + 1)

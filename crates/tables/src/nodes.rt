@@ -75,9 +75,15 @@ pub(crate) fn next_pair(pair: Pair, width: usize) -> Pair
     requires { ⌜ pair .column < width ⌝ }
     ensures { λ r. ⌜ (place width (r .row) (r .column) ≡ place width (pair .row) (pair .column) + 1) × (r .column < width) ⌝ }
 {
-    let next = cell(width, pair.row, pair.column) + 1;
+    let column = pair.column + 1;
+    if column < width {
+        return Pair {
+            row: pair.row,
+            column,
+        };
+    }
     Pair {
-        row: next / width,
-        column: next % width,
+        row: pair.row + 1,
+        column: 0,
     }
 }

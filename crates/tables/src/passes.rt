@@ -4,17 +4,19 @@ use crate::nodes::Pair;
 use crate::nodes::cell;
 use crate::nodes::next_pair;
 use crate::nodes::node;
+use crate::relaxing::lesser;
 use crate::relaxing::relax;
 use crate::rules::relax_pair;
 use words::Factors;
+ghost use mathlib.Core.Bool.{true};
 ghost use mathlib.Core.Path.{_≡_};
-ghost use Prim.Native.Nat.{_+_, _*_, _≤_, _<_};
+ghost use Prim.Native.Nat.{_+_, _*_, _-_, _≤_, _<_};
 ghost use lib.ListN.{length, replicate};
 ghost use Rattle.levels.specs.Levels.{Relaxed};
 ghost use Rattle.tables.specs.Rules.{place, Rule};
-ghost use Rattle.tables.specs.Nodes.{Linked, AllBelow};
+ghost use Rattle.tables.specs.Nodes.{Tells, Linked, AllBelow};
 ghost use Rattle.tables.specs.Relaxing.{Ready};
-ghost use Rattle.tables.specs.Levelling.{Visited, Passes, NextLevel, Starts, Full};
+ghost use Rattle.tables.specs.Levelling.{Visited, Passes, Without, Sought, NextLevel, Starts, Full};
 
 // The pair's rules are relaxed where its entry is the level.
 fn visit(
@@ -50,7 +52,64 @@ fn visit(
     }
 }
 
-// One pass at the level k.
+// Whether there was no entry k so far, and this one is not k either.
+fn absent_too(so_far: bool, entry: u16, k: u16) -> bool
+    ensures { λ r. ⌜ Tells r ((«so_far» ≡ true) × (entry ≡ k → ⊥)) ⌝ }
+{
+    if entry == k {
+        return false;
+    }
+    so_far
+}
+
+// Whether no place from `from` up to `end` has the entry k. No early end, so that the loop runs on many entries at once.
+fn absent(table: &[u16], from: usize, end: usize, k: u16) -> bool
+    requires { ⌜ from ≤ end ⌝ }
+    requires { ⌜ end ≤ length (now table) ⌝ }
+    ensures { λ r. ⌜ Tells r (Without k (now (table .entry)) from end) ⌝ }
+{
+    let mut none = true;
+    let mut p = from;
+    while p < end {
+        none = absent_too(none, table[p], k);
+        p += 1;
+    }
+    none
+}
+
+// The first place from `from` on whose entry is k, or `last` where none before it has that entry.
+fn find(table: &[u16], from: usize, last: usize, k: u16) -> usize
+    requires { ⌜ from ≤ last ⌝ }
+    requires { ⌜ last < length (now table) ⌝ }
+    ensures { λ r. ⌜ Sought k (now (table .entry)) from last r ⌝ }
+{
+    let mut p = from;
+    while p < last {
+        if table[p] == k {
+            return p;
+        }
+        p += 1;
+    }
+    last
+}
+
+// The first column from y on in row x where the entry is k, or the last column. Most rows have no such entry, which `absent` tells sooner.
+fn seek(table: &[u16], width: usize, x: usize, y: usize, k: u16) -> usize
+    requires { ⌜ Ready width k (now table) ⌝ }
+    requires { ⌜ x < width ⌝ }
+    requires { ⌜ y < width ⌝ }
+    ensures { λ r. ⌜ Sought k (now (table .entry)) (place width x y) (place width x (width - 1)) (place width x r) ⌝ }
+{
+    let row = cell(width, x, 0);
+    if y == 0 {
+        if absent(table, row, row + width, k) {
+            return width - 1;
+        }
+    }
+    find(table, row + y, row + width - 1, k) - row
+}
+
+// One pass at the level k. Visits of the places that `seek` passes over would change nothing.
 fn pass(
     table: &mut [u16],
     width: usize,
@@ -67,6 +126,8 @@ fn pass(
 {
     let mut pair = Pair { row: 0, column: 0 };
     while pair.row < width {
+        let x = pair.row;
+        let y = seek(table, width, x, pair.column, k);
         visit(
             table,
             width,
@@ -74,37 +135,35 @@ fn pass(
             rests,
             children_r,
             children_s,
-            pair.row,
-            pair.column,
+            x,
+            y,
             k,
         );
-        pair = next_pair(pair, width);
+        pair = next_pair(Pair { row: x, column: y }, width);
     }
 }
 
-// The entry, where it lies above k and below the least one so far; else that one.
-fn lesser_above(entry: u16, k: u16, least: u16) -> u16
-    requires { ⌜ k < least ⌝ }
-    ensures { λ r. ⌜ (k < r) × (r ≤ least) × (k < entry → r ≤ entry) ⌝ }
+// The entry, where it lies above k; else `none`.
+fn above(entry: u16, k: u16, none: u16) -> u16
+    ensures { λ r. ⌜ (k < entry → r ≡ entry) × (entry ≤ k → r ≡ none) ⌝ }
 {
     if k < entry {
-        if entry < least {
-            return entry;
-        }
+        return entry;
     }
-    least
+    none
 }
 
-// The level after k: the least entry above it, or n + 1.
+// The level after k: the least entry above it, or n + 1. Every turn does the same, so that the loop runs on many entries at once.
 fn level_after(table: &[u16], k: u16, n: Factors) -> u16
     requires { ⌜ k ≤ n .0 ⌝ }
     requires { ⌜ n .0 ≤ 1000 ⌝ }
     ensures { λ r. ⌜ NextLevel (n .0) (now (table .entry)) k r ⌝ }
 {
-    let mut least = n.0 + 1;
+    let none = n.0 + 1;
+    let mut least = none;
     let mut i = 0;
     while i < table.len() {
-        least = lesser_above(table[i], k, least);
+        least = lesser(least, above(table[i], k, none));
         i += 1;
     }
     least

@@ -7,7 +7,7 @@ ghost use Rattle.levels.specs.Levels.{entry, Relaxed};
 ghost use Rattle.levels.specs.Passes.{Only};
 ghost use Rattle.tables.specs.Relaxing.{Ready, Inside, One};
 
-fn lesser(a: u16, b: u16) -> u16
+pub(crate) fn lesser(a: u16, b: u16) -> u16
     ensures { λ r. ⌜ r ≡ min a b ⌝ }
 {
     if b < a {

@@ -1,8 +1,7 @@
 -- Reduction and inversion keep their promise: one argument, with the word that is wanted as a parameter. Assumes nothing.
-use mathlib.Core.Path.{_≡_, refl, sym, ap, subst, _∙_}
-use mathlib.Core.List.{List, [], reverse}
-use Prim.Native.Nat.{ℕ, _*_, _≤_}
-use native.Mathlib.Omega.{arith}
+use mathlib.Core.Path.{_≡_, sym, ap, _∙_}
+use mathlib.Core.List.{List, []}
+use Prim.Native.Nat.{ℕ, _*_}
 use lib.ListN.{length, take, length-reverse}
 use Rattle.words.specs.Word.{Word, arrived, nf}
 use Rattle.words.specs.Bytes.{word, bytes}
@@ -18,13 +17,18 @@ use Rattle.words.specs.declared.Written.the-variants.{Length, Refused as
 use Rattle.words.proofs.Stack.{held-length}
 
 -- a stack at which all of x has arrived spells the normal form of x
-pub held-spells : (s : List ℕ) (len ending : ℕ) (x : Word) → Held s len ending (arrived [] x) → take len s ≡ bytes (nf x)
-unfolding nf
-held-spells s len ending x h = h .spelled
+module _ (s : List ℕ) (len ending : ℕ) (x : Word) (h : Held s len ending (arrived [] x)) where
+  held-spells : take len s ≡ bytes (nf x)
+  unfolding nf
+  held-spells = h .spelled
 
-pub held-nf-length : (s : List ℕ) (len ending : ℕ) (x : Word) → Held s len ending (arrived [] x) → len ≡ length (nf x)
-unfolding nf
-held-nf-length s len ending x h = held-length s len ending (arrived [] x) h ∙ sym (length-reverse (arrived [] x))
+  pub held-nf-length : len ≡ length (nf x)
+  unfolding nf
+  held-nf-length = held-length s len ending (arrived [] x) h ∙ sym (length-reverse (arrived [] x))
+
+  -- and where it is copied out, the normal form is told and written
+  pub held-writes : (r : Written) (before after : List ℕ) → (r ≡ Length (record { 0 = len })) × (after ≡ overwritten (take len s) before) → (r ≡ Length (record { 0 = length (nf x) })) × (after ≡ overwritten (bytes (nf x)) before)
+  held-writes r before after out = (out .0 ∙ ap (λ (n : ℕ). Length (record { 0 = n })) held-nf-length, out .1 ∙ ap (λ (l : List ℕ). overwritten l before) held-spells)
 
 module _ (f : Word → Word) (k : ℕ) (w before : List ℕ) (needed : ℕ) (asked : Asked) (room : needed ≡ k * length w) (questions : asked ≡ ofWord w needed (length before)) where
   same-questions : asked ≡ ofWord w (k * length w) (length before)
@@ -38,10 +42,10 @@ module _ (f : Word → Word) (k : ℕ) (w before : List ℕ) (needed : ℕ) (ask
         slice = ap (λ (a : Asked). written a (bytes (f (word w))) before) q;
       }
 
-  pub writes-word : asked ≡ Passed → (s : List ℕ) (len : ℕ) (r : Written) (after : List ℕ) → take len s ≡ bytes (f (word w)) → len ≡ length (f (word w)) → r ≡ Length (record { 0 = len }) → after ≡ overwritten (take len s) before → Writes f k w before r after
-  writes-word e s len r after spells height answers writes =
+  pub writes-word : asked ≡ Passed → (r : Written) (after : List ℕ) → (r ≡ Length (record { 0 = length (f (word w)) })) × (after ≡ overwritten (bytes (f (word w))) before) → Writes f k w before r after
+  writes-word e r after out =
       let q = sym e ∙ same-questions in
       record {
-        answer = answers ∙ ap (λ (n : ℕ). Length (record { 0 = n })) height ∙ ap (λ (a : Asked). lengthOr a (length (f (word w)))) q;
-        slice = writes ∙ ap (λ (l : List ℕ). overwritten l before) spells ∙ ap (λ (a : Asked). written a (bytes (f (word w))) before) q;
+        answer = out .0 ∙ ap (λ (a : Asked). lengthOr a (length (f (word w)))) q;
+        slice = out .1 ∙ ap (λ (a : Asked). written a (bytes (f (word w))) before) q;
       }

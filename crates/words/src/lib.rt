@@ -9,6 +9,7 @@ ghost use mathlib.Core.Path.{_≡_};
 ghost use Prim.Native.Nat.{_≤_};
 ghost use lib.ListN.{length, take};
 ghost use Rattle.words.specs.Word.{nf, inverse};
+ghost use Rattle.words.specs.Bytes.{word as wordOf, bytes};
 ghost use Rattle.words.specs.Slices.{overwritten};
 ghost use Rattle.words.specs.Calls.{Writes, Tests};
 
@@ -70,6 +71,21 @@ fn write_out(stack: &[u8], len: usize, out: &mut [u8]) -> Written
     Written::Length(Letters(len as u16))
 }
 
+// The letters that a short stack holds. Most words are short, and a long stack's zeros cost more than their reduction.
+const FEW: usize = 128;
+
+// Writes the normal form of `word` to the front of `out`, by a stack that is lent for its letters.
+fn reduce_on(stack: &mut [u8], word: &[u8], out: &mut [u8]) -> Written
+    requires { ⌜ length (now word) ≤ length (now stack) ⌝ }
+    requires { ⌜ length (now word) ≤ length (now out) ⌝ }
+    requires { ⌜ length (now word) ≤ 4096 ⌝ }
+    ensures { λ r. ⌜ r ≡ Written.Length (record { 0 = length (nf (wordOf (now (word .entry)))) }) ⌝ }
+    ensures { λ _. ⌜ now (out .exit) ≡ overwritten (bytes (nf (wordOf (now (word .entry))))) (now (out .entry)) ⌝ }
+{
+    let top = arrival::arrive_all(stack, word);
+    write_out(stack, top.len, out)
+}
+
 // Writes the normal form of `word` to the front of `out`.
 pub fn reduce(word: &[u8], out: &mut [u8]) -> Written
     ensures { λ r. ⌜ Writes nf 1 (now (word .entry)) (now (out .entry)) r (now (out .exit)) ⌝ }
@@ -77,9 +93,12 @@ pub fn reduce(word: &[u8], out: &mut [u8]) -> Written
     match questions::of_word(word, word.len(), out.len()) {
         Asked::Refused(refusal) => Written::Refused(refusal),
         Asked::Passed => {
+            if word.len() <= FEW {
+                let mut stack = [0u8; FEW];
+                return reduce_on(&mut stack, word, out);
+            }
             let mut stack = [0u8; 4096];
-            let top = arrival::arrive_all(&mut stack, word);
-            write_out(&stack, top.len, out)
+            reduce_on(&mut stack, word, out)
         }
     }
 }

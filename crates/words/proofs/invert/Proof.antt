@@ -7,7 +7,7 @@ use Rattle.words.specs.Bytes.{letter, word as wordOf}
 use Rattle.words.proofs.NormalForm.{nf-length}
 use Rattle.words.proofs.Inverse.{inverse-length}
 use Rattle.words.proofs.Asking.{of-word-passed}
-use Rattle.words.proofs.Writing.{held-spells, held-nf-length, writes-nothing, writes-word}
+use Rattle.words.proofs.Writing.{held-nf-length, held-writes, writes-nothing, writes-word}
 use native.Mathlib.Omega.{arith}
 use borrow.Author.Needs.{needs}
 use Rattle.words.proofs.invert.Statement.{statement}
@@ -18,37 +18,29 @@ use Rattle.words.proofs.arrival.arrive_inverse.Reads as arrive-inverse-
 use Rattle.words.proofs.questions.of_word.Reads as of-word-reads
 use Rattle.words.proofs.write_out.Reads as write-out-reads
 
--- src/lib.rt:91:36
 mul-of-word : tie.Need-mul-of-word
 mul-of-word c = search needs
 
--- src/lib.rt:91:11
 of-word-requires : tie.Need-of-word-requires
 of-word-requires c κs = search needs
 
--- src/lib.rt:92:24
 enum-known-refusal : tie.Need-enum-known-refusal
 enum-known-refusal c = search needs
 
--- src/lib.rt:94:17
 enum-told : tie.Need-enum-told
 enum-told c = search needs
 
--- src/lib.rt:95:47
 slice-aggregate-arrive-inverse : tie.Need-slice-aggregate-arrive-inverse
 slice-aggregate-arrive-inverse c = search needs
 
--- src/lib.rt:95:17
 arrive-inverse-requires : tie.Need-arrive-inverse-requires
 arrive-inverse-requires c κs =
     let a = c .before .before .before .before .before .before .args in
     omega (arith, of-word-passed (a .word .now) _ (length (a .out .now)) (sym (c .before .before .before .of-word .ensures) ∙ c .before .enum-told .given .1))
 
--- src/lib.rt:96:23
 slice-aggregate-write-out : tie.Need-slice-aggregate-write-out
 slice-aggregate-write-out c = sym (c .before .before .arrive-inverse .kept .0)
 
--- src/lib.rt:96:13
 write-out-requires : tie.Need-write-out-requires
 write-out-requires c κs =
     let a = c .before .before .before .before .before .before .before .before .before .before .args in
@@ -58,25 +50,20 @@ write-out-requires c κs =
     let short : c .before .before .before .arrive-inverse .result .len ≤ length (a .out .now) = omega (arith, asked, held-nf-length _ _ _ (inverse (wordOf w)) h, nf-length (inverse (wordOf w)), inverse-length (wordOf w), length-map w letter) in
     (h .within, (short, omega (arith, h .within, c .before .before .before .arrive-inverse .kept .0)))
 
--- src/lib.rt:88:1
 returns : tie.Need-returns
 returns c =
     let a = c .before .before .before .before .before .before .args in
     writes-nothing (λ (w : Word). nf (inverse w)) 2 (a .word .now) (a .out .now) _ (c .before .before .before .of-word .result) (refl) (c .before .before .before .of-word .ensures) (c .before .refusal .given .1)
 
--- src/lib.rt:88:1
 same-length : tie.Need-same-length
 same-length c = search needs
 
--- src/lib.rt:88:1
 returns-2 : tie.Need-returns-2
 returns-2 c =
     let a = c .before .before .before .before .before .before .before .before .before .before .before .before .before .args in
     let w = a .word .now in
     let h = c .before .before .before .before .before .before .arrive-inverse .ensures in
-    let o = c .before .before .write-out .ensures in
-    writes-word (λ (w : Word). nf (inverse w)) 2 w (a .out .now) _ (c .before .before .before .before .before .before .before .before .before .before .of-word .result) (refl) (c .before .before .before .before .before .before .before .before .before .before .of-word .ensures) (c .before .before .before .before .before .before .before .before .enum-told .given .1) _ _ _ _
-    (held-spells _ _ _ (inverse (wordOf w)) h) (held-nf-length _ _ _ (inverse (wordOf w)) h) (o .0) (o .1)
+    writes-word (λ (w : Word). nf (inverse w)) 2 w (a .out .now) _ (c .before .before .before .before .before .before .before .before .before .before .of-word .result) (refl) (c .before .before .before .before .before .before .before .before .before .before .of-word .ensures) (c .before .before .before .before .before .before .before .before .enum-told .given .1) _ _ (held-writes _ _ _ (inverse (wordOf w)) h _ _ _ (c .before .before .write-out .ensures))
 
 pub invert-spec : {M : Type 1} → statement M
 invert-spec =

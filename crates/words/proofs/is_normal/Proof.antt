@@ -16,36 +16,29 @@ use Rattle.words.proofs.is_normal.Lts as lts
 use Rattle.words.proofs.normality.normal_from.Reads as normal-from-reads
 use Rattle.words.proofs.questions.of_letters.Reads as of-letters-reads
 
--- src/lib.rt:93:11
 of-letters-requires : tie.Need-of-letters-requires
 of-letters-requires c κs = search needs
 
--- src/lib.rt:94:24
 enum-known-refusal : tie.Need-enum-known-refusal
 enum-known-refusal c = search needs
 
--- src/lib.rt:96:16
 enum-told : tie.Need-enum-told
 enum-told c = search needs
 
--- src/lib.rt:96:16
 normal-from-requires : tie.Need-normal-from-requires
 normal-from-requires c κs = search needs
 
--- src/lib.rt:90:1
 returns : tie.Need-returns
 returns c =
     let w = c .before .before .before .before .before .args .word .now in
     subst (λ (q : Asked). TestedRight q (wordOf w) (Tested·Refused (c .before .refusal .given .0 .0))) (sym (c .before .refusal .given .1) ∙ c .before .before .before .of-letters .ensures) refl
 
--- src/lib.rt:90:1
 returns-2 : tie.Need-returns-2
 returns-2 c =
     let w = c .before .before .before .before .before .before .args .word .now in
     subst (λ (q : Asked). TestedRight q (wordOf w) Tested·Normal) (sym (c .before .before .enum-told .given .1) ∙ c .before .before .before .before .of-letters .ensures)
     (subst (λ (b : Bool). Decides b (Normal (wordOf w))) (c .if1 .taken) (c .before .normal-from .ensures))
 
--- src/lib.rt:90:1
 returns-3 : tie.Need-returns-3
 returns-3 c =
     let w = c .before .before .before .before .before .before .args .word .now in

@@ -1,77 +1,69 @@
--- The letters arrive at a stack, which is then copied out. Assumes nothing.
-use mathlib.Core.Path.{refl, sym, _∙_}
+-- A word that passes its questions fits on the stack that its length chooses. Assumes nothing.
+use mathlib.Core.Path.{sym, _∙_}
 use Prim.Native.Nat.{_≤_}
-use lib.ListN.{length, length-map}
-use Rattle.words.specs.Word.{Word, nf, inverse}
-use Rattle.words.specs.Bytes.{letter, word as wordOf}
-use Rattle.words.proofs.NormalForm.{nf-length}
+use lib.ListN.{length}
+use Rattle.words.specs.Word.{nf}
 use Rattle.words.proofs.Asking.{of-word-passed}
-use Rattle.words.proofs.Writing.{held-spells, held-nf-length, writes-nothing, writes-word}
+use Rattle.words.proofs.Writing.{writes-nothing, writes-word}
 use native.Mathlib.Omega.{arith}
 use borrow.Author.Needs.{needs}
 use Rattle.words.proofs.reduce.Statement.{statement}
 use Rattle.words.proofs.reduce.Tie as tie
-use Rattle.words.proofs.reduce.Reads as reads
-use Rattle.words.proofs.reduce.Lts as lts
-use Rattle.words.proofs.arrival.arrive_all.Reads as arrive-all-reads
-use Rattle.words.proofs.questions.of_word.Reads as of-word-reads
-use Rattle.words.proofs.write_out.Reads as write-out-reads
 
--- src/lib.rt:77:11
+abbrev start : tie.After-enum-told → tie.Start
+start c = c .before .before .before .before .before
+
+-- the word has passed its questions
+asked : (c : tie.After-enum-told) → (length (start c .args .word .now) ≤ 4096) × (length (start c .args .word .now) ≤ length (start c .args .out .now))
+asked c = of-word-passed (start c .args .word .now) _ _ (sym (c .before .before .of-word .ensures) ∙ c .enum-told .given .1)
+
 of-word-requires : tie.Need-of-word-requires
 of-word-requires c κs = search needs
 
--- src/lib.rt:78:24
 enum-known-refusal : tie.Need-enum-known-refusal
 enum-known-refusal c = search needs
 
--- src/lib.rt:80:17
 enum-told : tie.Need-enum-told
 enum-told c = search needs
 
--- src/lib.rt:81:43
-slice-aggregate-arrive-all : tie.Need-slice-aggregate-arrive-all
-slice-aggregate-arrive-all c = search needs
+slice-aggregate-reduce-on : tie.Need-slice-aggregate-reduce-on
+slice-aggregate-reduce-on c = search needs
 
--- src/lib.rt:81:17
-arrive-all-requires : tie.Need-arrive-all-requires
-arrive-all-requires c κs =
-    let a = c .before .before .before .before .before .before .args in
-    omega (arith, of-word-passed (a .word .now) _ (length (a .out .now)) (sym (c .before .before .before .of-word .ensures) ∙ c .before .enum-told .given .1))
+reduce-on-requires : tie.Need-reduce-on-requires
+reduce-on-requires c κs =
+    let passed = asked (c .before .before .before) in
+    (omega arith, (passed .1, passed .0))
 
--- src/lib.rt:82:23
-slice-aggregate-write-out : tie.Need-slice-aggregate-write-out
-slice-aggregate-write-out c = sym (c .before .before .arrive-all .kept .0)
-
--- src/lib.rt:82:13
-write-out-requires : tie.Need-write-out-requires
-write-out-requires c κs =
-    let a = c .before .before .before .before .before .before .before .before .before .before .args in
-    let w = a .word .now in
-    let h = c .before .before .before .arrive-all .ensures in
-    let asked = of-word-passed w _ (length (a .out .now)) (sym (c .before .before .before .before .before .before .before .of-word .ensures) ∙ c .before .before .before .before .before .enum-told .given .1) in
-    let short : c .before .before .before .arrive-all .result .len ≤ length (a .out .now) = omega (arith, asked, held-nf-length _ _ _ (wordOf w) h, nf-length (wordOf w), length-map w letter) in
-    (h .within, (short, omega (arith, h .within, c .before .before .before .arrive-all .kept .0)))
-
--- src/lib.rt:74:1
-returns : tie.Need-returns
-returns c =
-    let a = c .before .before .before .before .before .before .args in
-    writes-nothing nf 1 (a .word .now) (a .out .now) _ (c .before .before .before .of-word .result) (omega arith) (c .before .before .before .of-word .ensures) (c .before .refusal .given .1)
-
--- src/lib.rt:74:1
 same-length : tie.Need-same-length
 same-length c = search needs
 
--- src/lib.rt:74:1
+returns : tie.Need-returns
+returns c =
+    let told = c .before .before .before .before .before .before .before in
+    let a = start told .args in
+    writes-word nf 1 (a .word .now) (a .out .now) _ (told .before .before .of-word .result) (omega arith) (told .before .before .of-word .ensures) (told .enum-told .given .1) _ _ (c .before .before .before .reduce-on .ensures)
+
+slice-aggregate-reduce-on-2 : tie.Need-slice-aggregate-reduce-on-2
+slice-aggregate-reduce-on-2 c = search needs
+
+reduce-on-requires-2 : tie.Need-reduce-on-requires-2
+reduce-on-requires-2 c κs =
+    let passed = asked (c .before .before .before) in
+    (omega (arith, passed .0), (passed .1, passed .0))
+
 returns-2 : tie.Need-returns-2
 returns-2 c =
-    let a = c .before .before .before .before .before .before .before .before .before .before .before .before .before .args in
-    let w = a .word .now in
-    let h = c .before .before .before .before .before .before .arrive-all .ensures in
-    let o = c .before .before .write-out .ensures in
-    writes-word nf 1 w (a .out .now) _ (c .before .before .before .before .before .before .before .before .before .before .of-word .result) (omega arith) (c .before .before .before .before .before .before .before .before .before .before .of-word .ensures) (c .before .before .before .before .before .before .before .before .enum-told .given .1) _ _ _ _
-    (held-spells _ _ _ (wordOf w) h) (held-nf-length _ _ _ (wordOf w) h) (o .0) (o .1)
+    let a = c .before .before .before .before .before .before .args in
+    writes-nothing nf 1 (a .word .now) (a .out .now) _ (c .before .before .before .of-word .result) (omega arith) (c .before .before .before .of-word .ensures) (c .before .refusal .given .1)
+
+same-length-2 : tie.Need-same-length-2
+same-length-2 c = search needs
+
+returns-3 : tie.Need-returns-3
+returns-3 c =
+    let told = c .before .before .before .before .before .before .before in
+    let a = start told .args in
+    writes-word nf 1 (a .word .now) (a .out .now) _ (told .before .before .of-word .result) (omega arith) (told .before .before .of-word .ensures) (told .enum-told .given .1) _ _ (c .before .before .before .reduce-on2 .ensures)
 
 pub reduce-spec : {M : Type 1} → statement M
 reduce-spec =
@@ -80,10 +72,12 @@ reduce-spec =
     of-word-requires
     enum-known-refusal
     enum-told
-    slice-aggregate-arrive-all
-    arrive-all-requires
-    slice-aggregate-write-out
-    write-out-requires
-    returns
+    slice-aggregate-reduce-on
+    reduce-on-requires
     same-length
-    returns-2)
+    returns
+    slice-aggregate-reduce-on-2
+    reduce-on-requires-2
+    returns-2
+    same-length-2
+    returns-3)

@@ -9,23 +9,18 @@ use Rattle.words.proofs.write_out.Reads as reads
 use Rattle.words.proofs.write_out.Lts as lts
 use Rattle.words.proofs.copying.copy.Reads as copy-reads
 
--- src/lib.rt:69:19
 slice-aggregate-copy : tie.Need-slice-aggregate-copy
 slice-aggregate-copy c = sym (length-take-le (c .before .before .before .args .len) (c .before .before .before .args .stack .now) (omega arith))
 
--- src/lib.rt:69:5
 copy-requires : tie.Need-copy-requires
 copy-requires c κs = omega (arith, length-take-le (c .before .before .before .before .args .len) (c .before .before .before .before .args .stack .now) (omega arith))
 
--- src/lib.rt:70:29
 cast-t9 : tie.Need-cast-t9
 cast-t9 c = search needs
 
--- src/lib.rt:62:1
 same-length : tie.Need-same-length
 same-length c = search needs
 
--- src/lib.rt:62:1
 returns : tie.Need-returns
 returns c = search needs
 

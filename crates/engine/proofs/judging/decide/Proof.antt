@@ -9,9 +9,9 @@ use Rattle.words.specs.Bytes.{word}
 use Rattle.words.proofs.NormalForm.{equal-path}
 use Rattle.products.specs.Product.{generators}
 use Rattle.products.proofs.Verdict.{verdict-empty}
-use Rattle.engine.specs.Questions.{side}
+use Rattle.sizes.specs.Questions.{side}
+use Rattle.sizes.proofs.Passing.{SizesPassed, sizes-passed}
 use Rattle.engine.specs.Witness.{Planted}
-use Rattle.engine.proofs.Sizes.{SizesPassed, sizes-passed}
 use Rattle.engine.proofs.Planting.{list-fits, list-planted, table-within, rows-within}
 use Rattle.engine.proofs.Verdicts.{drop-later}
 use native.Mathlib.Omega.{arith}

@@ -4,9 +4,10 @@ use Prim.Native.Nat.{ℕ, _*_, _≤_}
 use lib.ListN.{length, length-map}
 use Rattle.words.specs.Bytes.{letter, word}
 use Rattle.products.specs.Product.{generators}
-use Rattle.engine.specs.Questions.{side, ofSizes}
+use Rattle.sizes.specs.Questions.{side, ofSizes}
+use Rattle.sizes.proofs.Square.{square-fits}
+use Rattle.sizes.proofs.Passing.{SizesPassed, sizes-passed}
 use Rattle.engine.specs.Calls.{zeroed}
-use Rattle.engine.proofs.Sizes.{square-fits, SizesPassed, sizes-passed}
 use Rattle.engine.proofs.Verdicts.{judged-refused, judged-settled}
 use native.Mathlib.Omega.{arith}
 use borrow.Author.Needs.{needs}

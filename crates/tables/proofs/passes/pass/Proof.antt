@@ -1,10 +1,10 @@
--- The pass has visited the places before the pair. Assumes nothing.
+-- The pass has visited the places before the pair. Those that `seek` passes over are without the level. Assumes nothing.
 use mathlib.Core.Path.{_≡_, sym, subst}
 use Prim.Native.Nat.{ℕ, _*_, _-_, _≤_, _<_}
 use Rattle.tables.specs.Rules.{place, Rule}
 use Rattle.tables.specs.Levelling.{Passes, begin, visit}
 use Rattle.tables.proofs.Places.{place-inside, place-past}
-use Rattle.tables.proofs.Visiting.{passes-ready, passes-length}
+use Rattle.tables.proofs.Visiting.{passes-ready, passes-length, passes-over}
 use native.Mathlib.Omega.{arith}
 use Rattle.tables.proofs.passes.pass.Statement.{statement}
 use Rattle.tables.proofs.passes.pass.Tie as tie
@@ -25,43 +25,55 @@ loop-holds c =
     let rules = Rule (a .width) (a .letters .now) (a .rests .now) in
     (start .pre .1 .1, omega arith, subst (λ (z : ℕ). Passes rules (a .k) z (a .table .now) (a .table .now)) first begin)
 
-visit-requires : tie.Need-visit-requires Inv-loop μ-loop
-visit-requires c κs =
+seek-requires : tie.Need-seek-requires Inv-loop μ-loop
+seek-requires c κs =
     let at-loop = c .before .before .before in
     let start = at-loop .before .before .before .before .before .before in
-    let p = start .pre in (passes-ready (p .0) (at-loop .loop .inv .2), (p .1 .0, (c .before .if1 .taken, at-loop .loop .inv .0)))
+    (passes-ready (start .pre .0) (at-loop .loop .inv .2), (c .before .if1 .taken, at-loop .loop .inv .0))
+
+visit-requires : tie.Need-visit-requires Inv-loop μ-loop
+visit-requires c κs =
+    let at-if1 = c .before .before .before in
+    let at-loop = at-if1 .before .before in
+    let start = at-loop .before .before .before .before .before .before in
+    let p = start .pre in
+    (passes-ready (p .0) (at-loop .loop .inv .2), (p .1 .0, (at-if1 .if1 .taken, omega (arith, c .before .seek .ensures .inside, p .1 .1))))
 
 next-pair-requires : tie.Need-next-pair-requires Inv-loop μ-loop
 next-pair-requires c κs =
-    let at-if1 = c .before .before .before .before in
-    let at-loop = at-if1 .before .before in
-    let start = at-loop .before .before .before .before .before .before in
-    (start .pre .0 .few, (at-if1 .if1 .taken, at-loop .loop .inv .0))
+    let at-seek = c .before .before .before .before in
+    let at-if1 = at-seek .before .before in
+    let start = at-if1 .before .before .before .before .before .before .before .before in
+    let p = start .pre in
+    (p .0 .few, (at-if1 .if1 .taken, omega (arith, at-seek .seek .ensures .inside, p .1 .1)))
 
 loop-less : tie.Need-loop-less Inv-loop μ-loop
 loop-less c =
-    let at-if1 = c .before .before .before .before .before in
+    let at-seek = c .before .before .before .before .before in
+    let at-if1 = at-seek .before .before in
     let at-loop = at-if1 .before .before in
     let start = at-loop .before .before .before .before .before .before in
     let w = start .args .width in
     let l = at-loop .loop in
     let inside : place w (l .pair .row) (l .pair .column) < w * w = place-inside (at-if1 .if1 .taken) (l .inv .0) in
-    omega (arith, c .next-pair .ensures .0)
+    omega (arith, c .next-pair .ensures .0, at-seek .seek .ensures .behind)
 
 loop-again : tie.Need-loop-again Inv-loop μ-loop
 loop-again c =
     let at-visit = c .before .before .before in
-    let at-if1 = at-visit .before .before in
+    let at-seek = at-visit .before .before in
+    let at-if1 = at-seek .before .before in
     let at-loop = at-if1 .before .before in
     let start = at-loop .before .before .before .before .before .before in
     let a = start .args in
     let l = at-loop .loop in
+    let sought = at-seek .seek .ensures in
     let rules = Rule (a .width) (a .letters .now) (a .rests .now) in
-    let inside : place (a .width) (l .pair .row) (l .pair .column) < a .width * a .width = place-inside (at-if1 .if1 .taken) (l .inv .0) in (
+    let last : place (a .width) (l .pair .row) (a .width - 1) < a .width * a .width = place-inside (at-if1 .if1 .taken) (omega (arith, start .pre .1 .1)) in (
       c .next-pair .ensures .1,
-      omega (arith, c .next-pair .ensures .0),
+      omega (arith, c .next-pair .ensures .0, sought .inside),
       subst (λ (z : ℕ). Passes rules (a .k) z (a .table .now) (at-visit .visit .last .0)) (sym (c .next-pair .ensures .0))
-          (visit (l .inv .2) (at-visit .visit .ensures)),
+          (visit (passes-over (sought .behind) (sought .without) (l .inv .2)) (at-visit .visit .ensures)),
     )
 
 same-length : tie.Need-same-length Inv-loop μ-loop
@@ -84,6 +96,7 @@ pass-spec =
     Inv-loop
     μ-loop
     loop-holds
+    seek-requires
     visit-requires
     next-pair-requires
     loop-less

@@ -1,20 +1,20 @@
-// The questions that a verdict asks once the list and the target are reduced.
+// The questions that a verdict asks once the list and the target are reduced: 12 to 15, by the sizes of both and of what is lent.
 use words::Asked;
 use words::Factors;
 use words::Letters;
 use words::Refusal;
 ghost use mathlib.Core.Path.{_≡_};
-ghost use Rattle.engine.specs.Questions.{side, ofSizes};
+ghost use Rattle.sizes.specs.Questions.{side, ofSizes};
 
 // The side of the tables that a verdict asks for, from m and t.
-pub(crate) fn side(m: Letters, t: Letters) -> usize
+pub fn side(m: Letters, t: Letters) -> usize
     ensures { λ r. ⌜ r ≡ side (m .0) (t .0) ⌝ }
 {
     m.0 as usize + 2 * (t.0 as usize) + 1
 }
 
 // Questions 12 to 15. `first`, `second` and `witness` are the lengths of the lent slices.
-pub(crate) fn of_sizes(
+pub fn of_sizes(
     m: Letters,
     t: Letters,
     n: Factors,

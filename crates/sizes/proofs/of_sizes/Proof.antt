@@ -1,11 +1,12 @@
 -- Each answer is the first no by the tests on the way. Assumes nothing.
 use mathlib.Core.Path.{sym}
 use Prim.Native.Nat.{_≤_}
-use Rattle.engine.proofs.Sizes.{square-fits, form-too-long, bound-too-large, witness-too-short, first-too-short, second-too-short, sizes-pass}
+use Rattle.sizes.proofs.Square.{square-fits}
+use Rattle.sizes.proofs.Refusing.{form-too-long, bound-too-large, witness-too-short, first-too-short, second-too-short, sizes-pass}
 use native.Mathlib.Omega.{arith}
 use borrow.Author.Needs.{needs}
-use Rattle.engine.proofs.questions.of_sizes.Statement.{statement}
-use Rattle.engine.proofs.questions.of_sizes.Tie as tie
+use Rattle.sizes.proofs.of_sizes.Statement.{statement}
+use Rattle.sizes.proofs.of_sizes.Tie as tie
 
 returns : tie.Need-returns
 returns c =

@@ -1,0 +1,3 @@
+pub mod Square
+mod Refusing
+pub mod Passing

@@ -1,0 +1,23 @@
+-- The questions at the door that concern sizes. Document 01, "The questions at the door". Assumes nothing: these are definitions.
+use mathlib.Core.List.{[], _∷_}
+use Prim.Native.Nat.{ℕ, _+_, _*_}
+use lib.Dec.{leb}
+use Rattle.words.specs.Questions.{asks, firstNo, question12, question14}
+use Rattle.words.specs.declared.Refusal.the-variants.{BoundTooLarge, TableTooShort}
+use Rattle.words.specs.declared.Asked.{Asked}
+
+-- 01: "m is the sum of the generators' normal form lengths, t the target's normal form length, and q = m + 2t + 1."
+abbrev pub side : ℕ → ℕ → ℕ
+side m t = m + 2 * t + 1
+
+-- 13: "Is n at most 1,000?"
+abbrev pub question13 : ℕ → Asked
+question13 n = asks (leb n 1000) BoundTooLarge
+
+-- 15: "Has each table at least q × q entries?"
+abbrev pub question15 : ℕ → ℕ → ℕ → Asked
+question15 q first second = firstNo (asks (leb (q * q) first) TableTooShort ∷ asks (leb (q * q) second) TableTooShort ∷ [])
+
+-- what is asked once m and t are known: 12; 13; 14 for the witness; 15
+abbrev pub ofSizes : ℕ → ℕ → ℕ → ℕ → ℕ → ℕ → Asked
+ofSizes m t n first second witness = firstNo (question12 t ∷ question13 n ∷ question14 n witness ∷ question15 (side m t) first second ∷ [])
