@@ -307,8 +307,8 @@ fn growth(
     println!();
 }
 
-/// The bound at which a walk of the group is measured: it visits as many elements as there are series of so many factors, a million for 32 generators.
-const WALK: u16 = 4;
+/// The bound at which a walk of the group is measured: with each factor more it visits as many times more elements as the list has generators.
+const WALK: u16 = 5;
 
 /// Whether the target is among the elements that a walk visits.
 fn walk_finds(call: &Call) -> bool {
@@ -334,13 +334,14 @@ fn print_lines(lines: &[plot::Line]) {
 /// Lists of generators of 10 letters, and a target that none of their short products is.
 fn over_m(lent: &mut Lent) -> Vec<plot::Line> {
     let mut lines = [
-        ("proved", "#c0392b"),
-        ("plain Rust", "#2471a3"),
-        ("walk of the group", "#7d8c2e"),
+        ("proved", "#c0392b", "none"),
+        ("plain Rust", "#2471a3", "6 6"),
+        ("walk of the group", "#7d8c2e", "none"),
     ]
-    .map(|(name, colour)| plot::Line {
+    .map(|(name, colour, dashes)| plot::Line {
         name,
         colour,
+        dashes,
         points: Vec::new(),
     });
     for generators in (4..=32).step_by(4) {

@@ -2,10 +2,11 @@
 
 use std::fmt::Write;
 
-/// A line of the plot: its name, its colour, and the milliseconds at each m.
+/// A line of the plot: its name, its colour, its dashes as SVG has them, and the milliseconds at each m.
 pub struct Line {
     pub name: &'static str,
     pub colour: &'static str,
+    pub dashes: &'static str,
     pub points: Vec<(f64, f64)>,
 }
 
@@ -92,9 +93,10 @@ pub fn svg(title: &str, lines: &[Line]) -> String {
             .collect();
         writeln!(
             svg,
-            r#"<polyline points="{}" fill="none" stroke="{}" stroke-width="2"/>"#,
+            r#"<polyline points="{}" fill="none" stroke="{}" stroke-width="2" stroke-dasharray="{}"/>"#,
             points.join(" "),
-            line.colour
+            line.colour,
+            line.dashes
         )
         .unwrap();
         let y = TOP + 24.0 * number as f64 + 16.0;
