@@ -115,17 +115,27 @@ fn round(first: &[u16], n: Factors, table: &[u16], row: &mut [u16])
     }
 }
 
-// Makes row i + 1 of row i, with each node's child by the letter that is read.
-fn next_row(children: &[u16], count: usize, n: Factors, table: &[u16], rows: &mut [u16], i: usize)
+// Makes row i + 1 of row i, with each node's child by the letter that is read. What is read goes into `first`, which is lent so that it is
+// made once for all rows.
+fn next_row(
+    children: &[u16],
+    count: usize,
+    n: Factors,
+    table: &[u16],
+    rows: &mut [u16],
+    i: usize,
+    first: &mut [u16],
+)
     requires { ⌜ RowFits count (n .0) (now children) (now table) i (now rows) ⌝ }
+    requires { ⌜ count ≤ length (now first) ⌝ }
     ensures { λ _. ⌜ NextRow count (n .0) (now (children .entry)) (now (table .entry)) i (now (rows .entry)) (now (rows .exit)) ⌝ }
+    ensures { λ _. ⌜ Rewritten (readAt (n .0) (now (children .entry)) (λ p. at (now (rows .entry)) (place count i p))) (now (first .entry)) (now (first .exit)) count ⌝ }
 {
-    let mut first = [0u16; NODES];
     let start = i * count;
     let middle = start + count;
     let end = middle + count;
-    read_row(&rows[start..middle], children, n, &mut first);
-    round(&first, n, table, &mut rows[middle..end]);
+    read_row(&rows[start..middle], children, n, first);
+    round(first, n, table, &mut rows[middle..end]);
 }
 
 // Makes row i + 1 by letter i of the target: 82 is R, and any other byte is taken for S.
@@ -138,16 +148,19 @@ fn read_letter(
     table: &[u16],
     rows: &mut [u16],
     i: usize,
+    first: &mut [u16],
 )
     requires { ⌜ RowFits count (n .0) (now «children_r») (now table) i (now rows) ⌝ }
     requires { ⌜ RowFits count (n .0) (now «children_s») (now table) i (now rows) ⌝ }
+    requires { ⌜ count ≤ length (now first) ⌝ }
     ensures { λ _. ⌜ NextRow count (n .0) (pick (eqb letter 82) (now («children_r» .entry)) (now («children_s» .entry))) (now (table .entry)) i (now (rows .entry)) (now (rows .exit)) ⌝ }
+    ensures { λ _. ⌜ Rewritten (readAt (n .0) (pick (eqb letter 82) (now («children_r» .entry)) (now («children_s» .entry))) (λ p. at (now (rows .entry)) (place count i p))) (now (first .entry)) (now (first .exit)) count ⌝ }
 {
     if letter == 82 {
-        next_row(children_r, count, n, table, rows, i);
+        next_row(children_r, count, n, table, rows, i, first);
         return;
     }
-    next_row(children_s, count, n, table, rows, i);
+    next_row(children_s, count, n, table, rows, i, first);
 }
 
 // Fills the rows of the target, from the table's row of the empty word on.
@@ -165,9 +178,20 @@ pub(crate) fn path(
     ensures { λ _. ⌜ drop (suc (length (now (target .entry))) * count) (now (rows .exit)) ≡ drop (suc (length (now (target .entry))) * count) (now (rows .entry)) ⌝ }
 {
     copy_row(table, count, rows);
+    let mut first = [0u16; NODES];
     let mut i = 0;
     while i < target.len() {
-        read_letter(target[i], children_r, children_s, count, n, table, rows, i);
+        read_letter(
+            target[i],
+            children_r,
+            children_s,
+            count,
+            n,
+            table,
+            rows,
+            i,
+            &mut first,
+        );
         i += 1;
     }
 }

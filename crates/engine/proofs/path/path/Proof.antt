@@ -1,5 +1,5 @@
--- Before turn i row 0 and i rows behind it are made. Assumes nothing.
-use mathlib.Core.Path.{_≡_, _∙_}
+-- Before turn i row 0 and i rows behind it are made, and the buffer has its length still. Assumes nothing.
+use mathlib.Core.Path.{_≡_, refl, _∙_}
 use Prim.Native.Nat.{_-_, _≤_}
 use lib.ListN.{length}
 use Rattle.engine.proofs.Filling.{Filling, path-rows, filling-begins, filling-more, filling-rest, fits-r, fits-s}
@@ -10,11 +10,11 @@ use Rattle.engine.proofs.path.path.Statement.{statement}
 use Rattle.engine.proofs.path.path.Tie as tie
 
 abbrev Inv-loop : tie.InvT-loop
-Inv-loop target count children-r children-s n table rows₀ i₀ rows i =
-    (i ≤ length target) × Filling count (n .0) children-r children-s target table rows₀ rows i
+Inv-loop target count children-r children-s n table rows₀ first₀ i₀ rows first i =
+    (i ≤ length target) × (length first ≡ 321) × Filling count (n .0) children-r children-s target table rows₀ rows i
 
 abbrev μ-loop : tie.MeasureT-loop
-μ-loop target count children-r children-s n table rows₀ i₀ rows i = length target - i
+μ-loop target count children-r children-s n table rows₀ first₀ i₀ rows first i = length target - i
 
 copy-row-requires : tie.Need-copy-row-requires Inv-loop μ-loop
 copy-row-requires c κs =
@@ -24,18 +24,21 @@ copy-row-requires c κs =
 loop-holds : tie.Need-loop-holds Inv-loop μ-loop
 loop-holds c =
     let fits = c .before .before .before .before .before .before .before .before .before .pre in
-    (omega arith, filling-begins fits (c .before .before .copy-row .ensures))
+    (omega arith, refl, filling-begins fits (c .before .before .copy-row .ensures))
 
 shared-slice-read-read-letter : tie.Need-shared-slice-read-read-letter Inv-loop μ-loop
 shared-slice-read-read-letter c = search needs
 
+slice-aggregate-read-letter : tie.Need-slice-aggregate-read-letter Inv-loop μ-loop
+slice-aggregate-read-letter c = search needs
+
 read-letter-requires : tie.Need-read-letter-requires Inv-loop μ-loop
 read-letter-requires c κs =
-    let p = c .before .before .before .before .before .before .before .before .before .before .before .before .before .pre in
-    let r = c .before .before .before .before .before .before .copy-row .ensures in
-    let f = c .before .before .before .loop .inv .1 in
-    let here = c .before .before .loop-test .taken in
-    (fits-r p r f here, fits-s p r f here)
+    let p = c .before .before .before .before .before .before .before .before .before .before .before .before .before .before .pre in
+    let r = c .before .before .before .before .before .before .before .copy-row .ensures in
+    let l = c .before .before .before .before .loop .inv in
+    let here = c .before .before .before .loop-test .taken in
+    (fits-r p r (l .2) here, (fits-s p r (l .2) here, omega (arith, p .few, l .1)))
 
 add-i : tie.Need-add-i Inv-loop μ-loop
 add-i c = search needs
@@ -45,11 +48,13 @@ loop-less c = search needs
 
 loop-again : tie.Need-loop-again Inv-loop μ-loop
 loop-again c =
-    let fits = c .before .before .before .before .before .before .before .before .before .before .before .before .before .before .before .before .pre in
-    (omega arith, filling-more fits (c .before .before .before .before .before .before .loop .inv .1) (c .before .before .read-letter .ensures))
+    let fits = c .before .before .before .before .before .before .before .before .before .before .before .before .before .before .before .before .before .before .pre in
+    let l = c .before .before .before .before .before .before .before .before .loop .inv in
+    let r = c .before .before .before .read-letter .ensures in
+    (omega arith, r .1 .long ∙ l .1, filling-more fits (l .2) (r .0))
 
 same-length : tie.Need-same-length Inv-loop μ-loop
-same-length c = c .before .loop .inv .1 .long ∙ c .before .before .before .before .copy-row .ensures .long
+same-length c = c .before .loop .inv .2 .long ∙ c .before .before .before .before .copy-row .ensures .long
 
 returns : tie.Need-returns Inv-loop μ-loop
 returns c =
@@ -57,8 +62,8 @@ returns c =
     let fits = c .before .before .before .before .before .before .before .before .before .before .before .pre in
     let l = c .before .loop in
     let all : l .i ≡ length (a .target .now) = omega arith in
-    let path = path-rows (l .inv .1) in
-    let rest = filling-rest fits (c .before .before .before .before .copy-row .ensures) (l .inv .1) in
+    let path = path-rows (l .inv .2) in
+    let rest = filling-rest fits (c .before .before .before .before .copy-row .ensures) (l .inv .2) in
     rw (← all) (path, rest)
 
 pub path-spec : {M : Type 1} → statement M
@@ -70,6 +75,7 @@ path-spec =
     copy-row-requires
     loop-holds
     shared-slice-read-read-letter
+    slice-aggregate-read-letter
     read-letter-requires
     add-i
     loop-less
