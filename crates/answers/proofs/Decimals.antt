@@ -1,11 +1,12 @@
--- Decimal numbers: the digits that `io::decimal` writes are the ones that a line has, and they spell the number. Assumes nothing.
+-- Decimal numbers: the digits that `io::decimal` writes are the ones that a line has, they spell the number, and they are few. Assumes nothing.
 use mathlib.Core.Bool.{Bool, cond}
 use mathlib.Core.Path.{_≡_, refl, sym, ap, _∙_}
 use mathlib.Core.List.{List, [], _∷_, _++_}
 use Prim.Native.Nat.{ℕ, zero, suc, _+_, _-_, _*_, _/_, _%_, _^_, _≤_, _<_}
-use native.Mathlib.Nat.{not-suc-le-zero, pow-suc, one-le-pow, pow-le-pow-right}
+use native.Mathlib.Nat.{not-suc-le-zero, pow-suc, one-le-pow}
 use native.Mathlib.Omega.{arith}
 use native.Mathlib.Decide.{decLt}
+use lib.ListN.{length, length-append}
 use borrow.Author.Tests.{lt-ltb, le-leb, lt-leb}
 use Rattle.words.specs.Bytes.{pick}
 use Rattle.io.specs.Digits.{glyph, digits, Fewest}
@@ -49,13 +50,20 @@ fewest-digits (suc most) (suc (suc k)) n h f =
 pub digits-decimal : (k n : ℕ) → Fewest 10 1 n k → digits 10 k n ≡ decimal n
 digits-decimal k n f = fewest-digits (suc n) k n (omega arith) f
 
--- 2 ^ 64 is below 10 ^ 20
-pub at-most-20-digits : (k n : ℕ) → n < 2 ^ 64 → Fewest 10 1 n k → k ≤ 20
-at-most-20-digits k n h f =
-    elim (decLt 20 k) [
-      | yes more ↦ absurd (omega (arith, f .2 (omega arith), pow-le-pow-right {n = 10} (omega arith) {i = 20} {j = k - 1} (omega arith)))
-      | no few ↦ omega arith
+last-digits-few : (most k n : ℕ) → n < 10 ^ suc k → length (lastDigits most n) ≤ suc k
+last-digits-few zero k n h = omega arith
+last-digits-few (suc most) zero n h = rw (last-digits-one most n h) (omega arith)
+last-digits-few (suc most) (suc k) n h =
+    elim (decLt n 10) [
+      | yes below ↦ rw (last-digits-one most n below) (omega arith)
+      | no above ↦
+          let more : 10 ≤ n = omega arith in
+          rw (last-digits-more most n more, length-append) (omega (arith, last-digits-few most k (n / 10) (omega (arith, pow-suc 10 (suc k)))))
     ]
+
+-- a number below 10 ^ k has at most k digits, where k is at least 1: 0 has one too
+pub decimal-few : (k n : ℕ) → n < 10 ^ suc k → length (decimal n) ≤ suc k
+decimal-few k n h = last-digits-few (suc n) k n h
 
 -- the number that ASCII digits spell behind those of `before`
 abbrev pub valueBehind : ℕ → List ℕ → ℕ

@@ -1,4 +1,5 @@
 pub mod Decimals
+pub mod LineLength
 mod Fields
 mod Storing
-mod LineLength
+mod Room

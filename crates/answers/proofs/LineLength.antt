@@ -1,30 +1,55 @@
--- A line that was written lies within the lent slice. Assumes nothing.
-use mathlib.Core.Bool.{Bool, true, false}
-use mathlib.Core.Path.{_≡_, refl, sym, ap, subst, _∙_}
-use mathlib.Core.List.{List}
-use Prim.Native.Nat.{ℕ, _≤_}
+-- The line of an answer of at most 1,000 factors has at most 4,096 bytes. Assumes nothing.
+use mathlib.Core.List.{List, [], _∷_}
+use Prim.Native.Nat.{ℕ, zero, suc, _*_, _≤_, _<_}
 use native.Mathlib.Omega.{arith}
-use lib.Dec.{leb}
-use lib.ListN.{length}
-use borrow.Author.Tests.{leb-true}
-use Rattle.words.specs.Bytes.{pick}
-use Rattle.answers.specs.Line.{line}
-use Rattle.answers.specs.Calls.{WritesLine}
+use lib.ListN.{length, take, getD, length-append}
+use Rattle.words.specs.Questions.{number, place}
+use Rattle.words.specs.declared.Refusal.{Refusal}
+use Rattle.words.specs.declared.Refusal.the-variants.{CardTooLong, BitMapWrong, FieldCut, SpareByte, EntryTooLarge, DeterminantNotOne, TooManyGenerators, TooManyLetters, EndsWrong, NotALetter, GeneratorTooLong, NormalFormTooLong, BoundTooLarge, OutputTooShort, TableTooShort, MatrixTooLarge}
+use Rattle.answers.specs.Line.{field, fieldsOf, said, line}
+use Rattle.answers.specs.Calls.{Shown, longest}
 use Rattle.answers.specs.declared.Answer.{Answer}
-use Rattle.answers.specs.declared.Lined.{Lined}
-use Rattle.answers.specs.declared.Lined.the-variants.{Length, TooShort}
+use Rattle.answers.specs.declared.Answer.the-variants.{Member, None, Refused}
+use Rattle.answers.proofs.Decimals.{decimal-few}
 
--- the length that is told, 0 where none is
-abbrev told : Lined → ℕ
-told (Length len) = len
-told TooShort = 0
+-- a factor is a byte, and takes a space and at most three digits
+fields-short : (count : ℕ) (witness : List ℕ) → ((i : ℕ) → getD witness i 0 < 256) → length (fieldsOf (take count witness)) ≤ 4 * count
+fields-short zero witness h = omega arith
+fields-short (suc count) [] h = omega arith
+fields-short (suc count) (b ∷ witness) h =
+    rw length-append (omega (arith, decimal-few 2 b (omega (arith, h 0)), fields-short count witness (λ i. h (suc i))))
 
-told-fits : (long room : ℕ) (test : Bool) → leb long room ≡ test → told (pick test (Length long) TooShort) ≤ room
-told-fits long room true e = leb-true long room e
-told-fits long room false e = omega arith
+number-two-digits : (refusal : Refusal) → number refusal < 100
+number-two-digits CardTooLong = omega arith
+number-two-digits BitMapWrong = omega arith
+number-two-digits (FieldCut at) = omega arith
+number-two-digits (SpareByte at) = omega arith
+number-two-digits (EntryTooLarge at) = omega arith
+number-two-digits DeterminantNotOne = omega arith
+number-two-digits TooManyGenerators = omega arith
+number-two-digits TooManyLetters = omega arith
+number-two-digits (EndsWrong at) = omega arith
+number-two-digits (NotALetter at) = omega arith
+number-two-digits (GeneratorTooLong at) = omega arith
+number-two-digits NormalFormTooLong = omega arith
+number-two-digits BoundTooLarge = omega arith
+number-two-digits OutputTooShort = omega arith
+number-two-digits TableTooShort = omega arith
+number-two-digits MatrixTooLarge = omega arith
 
-pub line-fits : {answer : Answer} {witness before after : List ℕ} {r : Lined} {len : ℕ}
-    → WritesLine answer witness before r after → r ≡ Length len → len ≤ length before
-line-fits {answer} {witness} {before} writes e =
-    subst (λ (k : ℕ). k ≤ length before) (ap told (sym (writes .answer-is) ∙ e))
-    (told-fits (length (line answer witness)) (length before) (leb (length (line answer witness)) (length before)) refl)
+-- a thousand factors of three digits have 4,012 bytes
+said-short : (answer : Answer) (witness : List ℕ) → Shown answer witness → length (said answer witness) ≤ 4011
+said-short (Member count) witness (few, bytes) =
+    let factors = fieldsOf (take (count .0) witness) in
+    omega (arith, length-append (field (count .0)) factors, decimal-few 3 (count .0) (omega arith), fields-short (count .0) witness bytes)
+said-short (None n) witness h = omega (arith, decimal-few 4 (n .0) (omega arith))
+said-short (Refused refusal) witness h =
+    omega (
+      arith,
+      length-append (field (number refusal)) (field (place refusal)),
+      decimal-few 1 (number refusal) (number-two-digits refusal),
+      decimal-few 19 (place refusal) (omega arith),
+    )
+
+pub line-short : (answer : Answer) (witness : List ℕ) → Shown answer witness → length (line answer witness) ≤ longest
+line-short answer witness h = rw length-append (omega (arith, said-short answer witness h))

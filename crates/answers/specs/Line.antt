@@ -15,7 +15,7 @@ abbrev pub lastDigits : ℕ → ℕ → List ℕ
 lastDigits zero n = []
 lastDigits (suc most) n = pick (leb 10 n) (lastDigits most (n / 10)) [] ++ ((48 + n % 10) ∷ [])
 
--- n has no more digits than n + 1
+-- n has at most n + 1 digits
 abbrev pub decimal : ℕ → List ℕ
 decimal n = lastDigits (suc n) n
 

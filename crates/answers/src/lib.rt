@@ -1,12 +1,12 @@
 // The answer to a query card, and the line that says it.
 mod writing;
 
-// The longest line of an answer of at most 1,000 factors has fewer bytes.
+// The room that `print` has for a line. An answer of at most 1,000 factors has no longer one: `line-short` of proofs/LineLength.antt.
 const LINE: usize = 4096;
 
 use words::Factors;
 use words::Refusal;
-ghost use Rattle.answers.specs.Calls.{WritesLine};
+ghost use Rattle.answers.specs.Calls.{WritesLine, Prints};
 
 // A member with its count, none with the bound, or the refusal.
 pub enum Answer {
@@ -21,8 +21,15 @@ pub enum Lined {
     TooShort,
 }
 
-// Writes the answer's line to the front of `out`. A member's factors are the first bytes of the witness. No line of an answer of at most 1,000
-// factors has more than 4,096 bytes.
+// What became of a line: the system took it whole; it has more than 4,096 bytes, and nothing was written; or the system took a part of it, or nothing.
+pub enum Printed {
+    Whole,
+    TooLong,
+    Failed,
+}
+
+// Writes the answer's line to the front of `out`. A member's factors are the first bytes of the witness. A slice of 4,096 bytes has room for the line
+// of every answer of at most 1,000 factors: `line-short` of proofs/LineLength.antt.
 pub fn write_line(answer: Answer, witness: &[u8], out: &mut [u8]) -> Lined
     ensures { λ r. ⌜ WritesLine answer (now (witness .entry)) (now (out .entry)) r (now (out .exit)) ⌝ }
 {
@@ -35,11 +42,19 @@ pub fn write_line(answer: Answer, witness: &[u8], out: &mut [u8]) -> Lined
     Lined::Length(writing::line(answer, witness, out))
 }
 
-// Writes the answer's line to standard output, in one write. False where that fails, or the line has more than 4,096 bytes.
-pub fn print(answer: Answer, witness: &[u8]) -> bool {
+// Writes the answer's line to standard output, in one write. What reaches the output cannot be said in a contract, and whether the system takes it is
+// the system's affair: the promise is that a line is called too long exactly where it is.
+pub fn print(answer: Answer, witness: &[u8]) -> Printed
+    ensures { λ r. ⌜ Prints answer (now (witness .entry)) r ⌝ }
+{
     let mut line = [0u8; LINE];
     match write_line(answer, witness, &mut line) {
-        Lined::TooShort => false,
-        Lined::Length(len) => io::write_all(1, &line[..len]),
+        Lined::TooShort => Printed::TooLong,
+        Lined::Length(len) => {
+            if io::write_all(1, &line[..len]) {
+                return Printed::Whole;
+            }
+            Printed::Failed
+        }
     }
 }

@@ -8,6 +8,7 @@ const ENTRIES: usize = 16384;
 
 const FACTORS: usize = 1000;
 
+// A program ends with no status of its own, so a line that the system does not take is not reported.
 fn answer(card: &[u8]) {
     let mut first = [0u16; ENTRIES];
     let mut second = [0u16; ENTRIES];
