@@ -12,10 +12,13 @@ use Rattle.products.specs.State.{LeastLead}
 use Rattle.products.proofs.Generators.{generators-length}
 use Rattle.sizes.specs.Questions.{side}
 use Rattle.sizes.proofs.Passing.{SizesPassed}
-use Rattle.trees.specs.Tree.{at, wordAt, Shape, Tree}
-use Rattle.trees.specs.Building.{Fits as TreeFits}
+use Rattle.trees.specs.Tree.{at, wordAt, Shape}
+use Rattle.trees.specs.Numbering.{numbered}
+use Rattle.trees.specs.Building.{Fits as TreeFits, Slices, BuildsTree}
 use Rattle.tables.specs.Rules.{place}
+use Rattle.tables.specs.Nodes.{Linked}
 use Rattle.tables.specs.Filling.{Fits, Filled}
+use Rattle.tables.proofs.Exact.{tree-linked}
 use Rattle.engine.specs.Path.{PathRows, PathFits}
 use Rattle.engine.specs.Witness.{Planted, Decided}
 use Rattle.engine.specs.Judging.{ReducedList}
@@ -40,25 +43,23 @@ list-fits letters rests childrenR childrenS wholes r l e cr cs w =
     }
 
 -- so the tree is built, and planted
-pub list-planted : {bytes ends form letters rests childrenR childrenS wholes : List ℕ} {n count first second witness : ℕ}
+pub list-planted : {bytes ends form : List ℕ} {n count first second witness : ℕ} {before after : Slices}
     → ReducedList bytes ends → Normal (word form) → (length form ≡ 0 → ⊥) → SizesPassed (length bytes) (length form) n first second witness
-    → count ≤ suc (length bytes)
-    → (words : List Word) × (length words ≡ count) × Tree (generators bytes ends) words letters rests childrenR childrenS wholes
-    → (words : List Word) × Planted (generators bytes ends) words count n letters rests childrenR childrenS wholes form
-list-planted {bytes} {ends} {form} reduced normal some passed few (words, size, tree) = (
-  words,
-  record {
-    normal = reduced .normal;
-    tree = tree;
-    size = size;
-    few = omega (arith, reduced .short);
-    bound = passed .bound;
-    numbers = omega (arith, reduced .few, generators-length bytes 0 ends);
-    target-normal = normal;
-    target-some = λ e. some (sym (length-map form letter) ∙ ap length e);
-    target-short = passed .short;
-  },
-)
+    → BuildsTree bytes ends before after count
+    → Planted (generators bytes ends) (numbered (generators bytes ends)) count n (after .letters) (after .rests) (after .childrenR) (after .childrenS)
+    (after .wholes) form
+list-planted {bytes} {ends} {form} reduced normal some passed built =
+    record {
+      normal = reduced .normal;
+      tree = built .tree;
+      size = built .counted;
+      few = omega (arith, built .few, reduced .short);
+      bound = passed .bound;
+      numbers = omega (arith, reduced .few, generators-length bytes 0 ends);
+      target-normal = normal;
+      target-some = λ e. some (sym (length-map form letter) ∙ ap length e);
+      target-short = passed .short;
+    }
 
 -- The tree has no more nodes than q, and no more than q rows are made: so the table and the rows fit in q × q entries.
 module _ (m t count : ℕ) (few : count ≤ suc m) where
@@ -79,6 +80,7 @@ module _ {gens words : List Word} {count n : ℕ} {letters rests childrenR child
   planted-fits table room =
       record {
         shape = subst (λ (k : ℕ). Shape k letters rests childrenR childrenS wholes) (p .size) (p .tree .shape);
+        linked = subst (λ (k : ℕ). Linked k letters rests childrenR childrenS) (p .size) (tree-linked (p .tree));
         few = omega (arith, p .few);
         bound = p .bound;
         room = room;

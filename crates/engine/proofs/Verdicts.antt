@@ -1,10 +1,8 @@
 -- A verdict with what is lent, by what the questions say. Assumes nothing.
 use mathlib.Core.Path.{_≡_, refl, sym, ap, subst, _∙_}
 use mathlib.Core.List.{List, _++_}
-use Prim.Native.Nat.{ℕ, _+_, _-_, _*_, _≤_}
-use native.Mathlib.Omega.{arith}
+use Prim.Native.Nat.{ℕ, _*_}
 use lib.ListN.{length, drop, replicate, length-replicate}
-use lib.Seq.{drop-drop}
 use Rattle.words.specs.Word.{Word}
 use Rattle.words.specs.declared.Refusal.{Refusal}
 use Rattle.words.specs.declared.Asked.{Asked}
@@ -13,12 +11,6 @@ use Rattle.engine.specs.Calls.{Lent, zeroed, VerdictRight, Judged}
 use Rattle.engine.specs.Judging.{Settled}
 use Rattle.engine.specs.declared.Verdict.{Verdict}
 use Rattle.engine.specs.declared.Verdict.the-variants.{Refused as Verdict·Refused}
-
--- what is alike behind a place is alike behind any later one
-pub drop-later : (j k : ℕ) (a b : List ℕ) → j ≤ k → drop j a ≡ drop j b → drop k a ≡ drop k b
-drop-later j k a b h e =
-    let sum : j + (k - j) ≡ k = omega arith in
-    ap (λ (i : ℕ). drop i a) (sym sum) ∙ sym (drop-drop (k - j) j a) ∙ ap (drop (k - j)) e ∙ drop-drop (k - j) j b ∙ ap (λ (i : ℕ). drop i b) sum
 
 -- a table that is zeroed for the side q depends on what stands behind q × q entries only
 zeroed-alike : (q : ℕ) (a b : List ℕ) → drop (q * q) a ≡ drop (q * q) b → zeroed q a ≡ zeroed q b

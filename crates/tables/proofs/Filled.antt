@@ -1,38 +1,27 @@
--- What `fill` promises: of a front part of the table that is full, and of slices that are no tree. Assumes nothing.
-use mathlib.Core.Path.{_≡_, refl, subst}
+-- What `fill` promises of a front part of the table that is full. Assumes nothing.
+use mathlib.Core.Path.{_≡_, subst}
 use mathlib.Core.List.{List, _++_}
-use Prim.Native.Nat.{ℕ, _+_, _*_, _≤_, _<_}
+use Prim.Native.Nat.{ℕ, _*_, _≤_, _<_}
 use native.Mathlib.Omega.{arith}
 use lib.ListN.{length, drop, length-append, length-drop, List·getD-append}
-use lib.Seq.{drop-at}
+use lib.Seq.{take-at, drop-at}
 use Rattle.words.specs.Word.{Word}
 use Rattle.products.specs.State.{AllNormal, LeastLead}
 use Rattle.trees.specs.Tree.{at, wordAt, Tree}
 use Rattle.tables.specs.Rules.{place}
-use Rattle.tables.specs.Nodes.{Linked}
 use Rattle.tables.specs.Levelling.{Full}
 use Rattle.tables.specs.Filling.{Filled}
 use Rattle.tables.proofs.Places.{place-inside}
-use Rattle.tables.proofs.Exact.{tree-linked, full-exact}
+use Rattle.tables.proofs.Exact.{full-exact}
 
 module _ {count : ℕ} {letters rests childrenR childrenS wholes : List ℕ} where
-  -- every tree is linked
-  pub filled-no-tree : {n : ℕ} {table : List ℕ} → (Linked count letters rests childrenR childrenS → ⊥)
-      → Filled count letters rests childrenR childrenS wholes n table table
-  filled-no-tree not-linked =
-      record {
-        long = refl;
-        kept = refl;
-        exact = λ gens words normal tree same p q row column.
-            absurd (not-linked (subst (λ (m : ℕ). Linked m letters rests childrenR childrenS) same (tree-linked tree)));
-      }
-
   pub filled-part : {n : ℕ} {part : List ℕ} (before : List ℕ) → count * count ≤ length before → Full count letters rests wholes n part
       → Filled count letters rests childrenR childrenS wholes n before (part ++ drop (count * count) before)
   filled-part {n} {part} before room full =
       record {
         long = omega (arith, full .counts .long, length-append part (drop (count * count) before), length-drop (count * count) before);
         kept = drop-at part (drop (count * count) before) (count * count) (full .counts .long);
+        full = rw (take-at part (drop (count * count) before) (count * count) (full .counts .long)) full;
         exact = λ gens words normal tree same. part-exact gens words normal tree count same full;
       }
     where

@@ -9,5 +9,6 @@ mod Visiting
 mod Levelled
 mod Sound
 mod Complete
-mod Exact
+pub mod Exact
 mod Filled
+pub mod Unique

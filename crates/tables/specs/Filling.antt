@@ -3,24 +3,32 @@ use mathlib.Core.Bool.{Bool, true, false}
 use mathlib.Core.Path.{_≡_}
 use mathlib.Core.List.{List}
 use Prim.Native.Nat.{ℕ, _*_, _≤_, _<_}
-use lib.ListN.{length, drop}
+use lib.ListN.{length, take, drop}
 use Rattle.words.specs.Word.{Word}
 use Rattle.products.specs.State.{AllNormal, LeastLead}
 use Rattle.trees.specs.Tree.{at, wordAt, Shape, Tree}
 use Rattle.tables.specs.Rules.{place}
+use Rattle.tables.specs.Nodes.{Linked}
+use Rattle.tables.specs.Levelling.{Full}
 
--- A tree whose indices can be followed, a bound of at most 1,000, and room for a row and a column for each node.
+-- Indices that can be followed, children that agree with the letters and rests, as those of every tree do, a bound of at most 1,000, and room
+-- for a row and a column for each node.
 pub record Fits (count : ℕ) (letters rests childrenR childrenS wholes : List ℕ) (n : ℕ) (table : List ℕ) : Type 0 where
   pub shape : Shape count letters rests childrenR childrenS wholes
+  pub linked : Linked count letters rests childrenR childrenS
   pub few : count ≤ 65535
   pub bound : n ≤ 1000
   pub room : count * count ≤ length table
 
--- The first count × count entries hold, for each pair of nodes, the least number of factors that leads from the one's word to the other's,
--- or n + 1; the others are as they were. 01: "each pair of states gets the least number of factors that makes u⁻¹v".
+-- The first count × count entries hold, for each pair of nodes, the least number that the rules make, or n + 1: this fixes them
+-- (proofs/Unique.antt), whether the slices are a tree or not. In the tree of a list of normal generators that is the least number of factors
+-- that leads from the one's word to the other's; a series that leads from state to state has one factor or more, so the diagonal is not 0. The
+-- other entries are as they were.
+-- 01: "each pair of states gets the least number of factors that makes u⁻¹v".
 pub record Filled (count : ℕ) (letters rests childrenR childrenS wholes : List ℕ) (n : ℕ) (before after : List ℕ) : Type 0 where
   pub long : length after ≡ length before
   pub kept : drop (count * count) after ≡ drop (count * count) before
+  pub full : Full count letters rests wholes n (take (count * count) after)
   pub exact : (gens words : List Word) → AllNormal gens → Tree gens words letters rests childrenR childrenS wholes → length words ≡ count
       → (p q : ℕ) → p < count → q < count → LeastLead gens n (wordAt words p) (wordAt words q) (at after (place count p q))
 

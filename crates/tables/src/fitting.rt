@@ -1,4 +1,4 @@
-// Whether the inputs fit, and whether the children agree with the letters and rests: tests in linear time.
+// Whether the inputs fit: the lengths, then the numbers of nodes, then whether the children agree with the letters and rests. A linear test.
 use crate::nodes::node;
 use words::Factors;
 ghost use Prim.Native.Nat.{_≤_, _<_};
@@ -102,32 +102,6 @@ fn has_shape(
     false
 }
 
-pub(crate) fn fits(
-    width: usize,
-    letters: &[u8],
-    rests: &[u16],
-    children_r: &[u16],
-    children_s: &[u16],
-    wholes: &[u16],
-    n: Factors,
-    table: &[u16],
-) -> bool
-    ensures { λ r. ⌜ Tells r (Fits width (now (letters .entry)) (now (rests .entry)) (now («children_r» .entry)) (now («children_s» .entry)) (now (wholes .entry)) (n .0) (now (table .entry))) ⌝ }
-{
-    if has_room(
-        width,
-        letters.len(),
-        rests.len(),
-        children_r.len(),
-        children_s.len(),
-        n,
-        table.len(),
-    ) {
-        return has_shape(width, letters, rests, children_r, children_s, wholes);
-    }
-    false
-}
-
 // Whether p's child has the letter and the rest p.
 fn child_agrees(
     letters: &[u8],
@@ -207,7 +181,7 @@ fn agree(letters: &[u8], rests: &[u16], letter: u8, children: &[u16], width: usi
 }
 
 // Whether the children by both letters agree with the letters and rests. Those of every tree do.
-pub(crate) fn linked(
+fn linked(
     width: usize,
     letters: &[u8],
     rests: &[u16],
@@ -220,6 +194,34 @@ pub(crate) fn linked(
 {
     if agree(letters, rests, 82, children_r, width) {
         return agree(letters, rests, 83, children_s, width);
+    }
+    false
+}
+
+pub(crate) fn fits(
+    width: usize,
+    letters: &[u8],
+    rests: &[u16],
+    children_r: &[u16],
+    children_s: &[u16],
+    wholes: &[u16],
+    n: Factors,
+    table: &[u16],
+) -> bool
+    ensures { λ r. ⌜ Tells r (Fits width (now (letters .entry)) (now (rests .entry)) (now («children_r» .entry)) (now («children_s» .entry)) (now (wholes .entry)) (n .0) (now (table .entry))) ⌝ }
+{
+    if has_room(
+        width,
+        letters.len(),
+        rests.len(),
+        children_r.len(),
+        children_s.len(),
+        n,
+        table.len(),
+    ) {
+        if has_shape(width, letters, rests, children_r, children_s, wholes) {
+            return linked(width, letters, rests, children_r, children_s);
+        }
     }
     false
 }

@@ -6,14 +6,13 @@ mod relaxing;
 mod rules;
 
 use crate::fitting::fits;
-use crate::fitting::linked;
 use crate::passes::fill_levels;
 use words::Factors;
 ghost use Rattle.tables.specs.Filling.{Fills};
 
-// Fills the first count * count entries of the table for the tree of `count` nodes in the five slices, up to the bound n. Where the
-// inputs do not fit nothing changes, and the answer is false. The promise is about trees: slices whose children disagree with their
-// letters and rests are none, and nothing is done for them.
+// Fills the first count * count entries of the table for the tree of `count` nodes in the five slices, up to the bound n. A series that leads
+// from state to state has one factor or more, so the diagonal is not 0. Where the inputs do not fit, or the children disagree with the letters
+// and rests, nothing changes, and the answer is false.
 pub fn fill(
     count: usize,
     letters: &[u8],
@@ -36,19 +35,16 @@ pub fn fill(
         n,
         table,
     ) {
-        if linked(count, letters, rests, children_r, children_s) {
-            fill_levels(
-                &mut table[..count * count],
-                count,
-                letters,
-                rests,
-                children_r,
-                children_s,
-                wholes,
-                n,
-            );
-            return true;
-        }
+        fill_levels(
+            &mut table[..count * count],
+            count,
+            letters,
+            rests,
+            children_r,
+            children_s,
+            wholes,
+            n,
+        );
         return true;
     }
     false

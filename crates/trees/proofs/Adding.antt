@@ -95,6 +95,7 @@ module _ {a b : Letter} (differ : a ≡ b → ⊥) (words : List Word) (letters 
         record {
           some = omega (arith, one-more);
           root = kept 0 (g .nodes .some) ∙ g .nodes .root;
+          root-rest = at-below rests (length words) 0 p (g .nodes .some) ∙ g .nodes .root-rest;
           rest-earlier =
               λ q z h.
               each

@@ -1,7 +1,10 @@
 pub mod Lists
+mod Behind
+mod Numbering
 pub mod Nodes
 mod Ends
-mod Behind
+pub mod Remaining
 mod Adding
 mod Growth
 mod Listed
+pub mod Unique

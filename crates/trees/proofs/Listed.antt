@@ -4,21 +4,24 @@ use mathlib.Core.List.{List, [], _∷_, _++_, nil≢cons}
 use Prim.Native.Nat.{ℕ, zero, suc, _+_, _-_, _≤_, _<_}
 use native.Mathlib.Nat.{le-refl}
 use native.Mathlib.Decide.{ℕ-discrete, decLt}
+use native.Mathlib.Numerals.{add-one}
 use native.Mathlib.Omega.{arith}
-use lib.ListN.{length, set}
-use lib.Seq.{slice}
+use lib.ListN.{length, drop, set, drop-of-length-le}
+use lib.Seq.{slice, drop-cons}
 use borrow.Author.Count.{below-more}
 use Rattle.words.specs.Word.{Letter, R, S, Word}
 use Rattle.words.specs.Bytes.{word}
 use Rattle.products.specs.Product.{generators, generator}
 use Rattle.products.specs.State.{State, nothing, suffix}
 use Rattle.trees.specs.Tree.{at, wordAt, Child, Tree}
+use Rattle.trees.specs.Numbering.{withSuffixes, withAll, numbered}
 use Rattle.trees.specs.Building.{Fits}
 use Rattle.trees.specs.Ends.{endBefore}
 use Rattle.trees.specs.Growing.{Tables, tables, Nodes, Children, Grown, Room, Grows, Read}
 use Rattle.trees.proofs.Lists.{generators-length, generator-at}
 use Rattle.trees.proofs.Ends.{fits-ends, end-before-within, end-before-next}
 use Rattle.trees.proofs.Behind.{at-same, at-below}
+use Rattle.trees.proofs.Numbering.{suffixes-more, suffixes-kept, suffixes-new}
 
 -- ---- node 0 alone
 
@@ -41,13 +44,14 @@ no-children x children e = record { inside = inside; child = child }
     child (suc p) h = absurd (omega arith)
 
 module _ (bytes ends : List ℕ) where
-  pub read-begins : (letters rests childrenR childrenS wholes : List ℕ) → at childrenR 0 ≡ 0 → at childrenS 0 ≡ 0
+  pub read-begins : (letters rests childrenR childrenS wholes : List ℕ) → at rests 0 ≡ 0 → at childrenR 0 ≡ 0 → at childrenS 0 ≡ 0
       → Read bytes ends 0 1 (tables letters rests childrenR childrenS) wholes
-  read-begins letters rests childrenR childrenS wholes no-r no-s =
+  read-begins letters rests childrenR childrenS wholes no-rest no-r no-s =
       record {
         words = [] ∷ [];
         counted = refl;
         grown = record { nodes = nodes; by-a = no-children R childrenR no-r; by-b = no-children S childrenS no-s };
+        others = refl;
         states = states;
         whole-inside = λ j h. absurd (omega arith);
         whole = λ j h. absurd (omega arith);
@@ -59,6 +63,7 @@ module _ (bytes ends : List ℕ) where
           record {
             some = le-refl 1;
             root = refl;
+            root-rest = no-rest;
             rest-earlier = λ p z h. absurd (omega arith);
             node = λ p z h. absurd (omega arith);
             spelled = λ p z h. absurd (omega arith);
@@ -94,33 +99,44 @@ module _ (bytes ends : List ℕ) where
     whole-word : generator (generators bytes ends) i ≡ word (slice from end bytes)
     whole-word = rw (starts, stops) (generator-at bytes ends i h)
 
+    others-next : (words : List Word)
+        → withAll (withSuffixes words (word (slice from end bytes))) (drop (i + 1) (generators bytes ends)) ≡ withAll words (drop i (generators bytes ends))
+    others-next words =
+        let inside : i < length (generators bytes ends) = rw generators-length h in
+        rw (add-one, ← whole-word, drop-cons (generators bytes ends) i [] inside)
+
     pub read-more : {after : Tables} {node count′ : ℕ}
-        → Grows R S (λ words. word (slice from end bytes)) (end - from) count (tables letters rests childrenR childrenS) after node count′
+        → Grows R S withSuffixes (λ words. word (slice from end bytes)) (end - from) count (tables letters rests childrenR childrenS) after node count′
         → Read bytes ends (i + 1) count′ after (set wholes i node)
     read-more {node = node} s =
+        let w = word (slice from end bytes) in
+        let all = withSuffixes (t .words) w in
+        let more = suffixes-more (t .words) w in
+        let kept = suffixes-kept (t .words) w in
         let m = s .grew (t .words) (t .counted) (t .grown) in
         let room : i < length wholes = omega (arith, f .room-wholes) in
         record {
-          words = m .all;
+          words = all;
           counted = m .counted;
           grown = m .grown;
+          others = others-next (t .words) ∙ t .others;
           states =
               λ p z.
               elim (decLt p (length (t .words))) [
-                | yes old ↦ rw (m .kept p old) (t .states p old)
-                | no new ↦ let (x, is) = m .new p (omega arith) z in suffix i x (rw generators-length h) (whole-word ∙ is)
+                | yes old ↦ rw (kept p old) (t .states p old)
+                | no new ↦ let (x, is) = suffixes-new (t .words) w p (omega arith) z in suffix i x (rw generators-length h) (whole-word ∙ is)
               ];
           whole-inside =
               below-more
-              (λ (j : ℕ). at (set wholes i node) j < length (m .all))
+              (λ (j : ℕ). at (set wholes i node) j < length all)
               i
-              (λ j z. rw (at-below wholes i j node z) (omega (arith, t .whole-inside j z, m .more)))
+              (λ j z. rw (at-below wholes i j node z) (omega (arith, t .whole-inside j z, more)))
               (rw (at-same wholes i node room) (m .inside));
           whole =
               below-more
-              (λ (j : ℕ). wordAt (m .all) (at (set wholes i node) j) ≡ generator (generators bytes ends) j)
+              (λ (j : ℕ). wordAt all (at (set wholes i node) j) ≡ generator (generators bytes ends) j)
               i
-              (λ j z. rw (at-below wholes i j node z) (m .kept (at wholes j) (t .whole-inside j z) ∙ t .whole j z))
+              (λ j z. rw (at-below wholes i j node z) (kept (at wholes j) (t .whole-inside j z) ∙ t .whole j z))
               (rw (at-same wholes i node room) (m .spells ∙ sym whole-word));
           few = rw (end-before-next ends i) (omega (arith, generator-rises, t .few, s .few));
         }
@@ -145,8 +161,16 @@ module _ (bytes ends : List ℕ) where
     pub few-nodes : count ≤ suc (length bytes)
     few-nodes = omega (arith, t .few, end-before-within f (length ends) (le-refl (length ends)))
 
-    pub read-tree : Tree (generators bytes ends) (t .words) letters rests childrenR childrenS wholes
-    read-tree =
+    -- no generator is left, so these are all words
+    all-words : t .words ≡ numbered (generators bytes ends)
+    all-words =
+        ap (withAll (t .words)) (sym (drop-of-length-le (generators bytes ends) {i = length ends} (omega (arith, generators-length bytes ends)))) ∙ t .others
+
+    pub count-nodes : length (numbered (generators bytes ends)) ≡ count
+    count-nodes = rw (← all-words) (t .counted)
+
+    tree-of-words : Tree (generators bytes ends) (t .words) letters rests childrenR childrenS wholes
+    tree-of-words =
         record {
           shape =
               record {
@@ -177,3 +201,6 @@ module _ (bytes ends : List ℕ) where
         node-of q (suffix j x h e) =
             let k : j < length ends = rw (generators-length bytes ends) at h in
             suffix-node (tables letters rests childrenR childrenS) (t .grown) x q (at wholes j) (t .whole-inside j k) (t .whole j k ∙ e)
+
+    pub read-tree : Tree (generators bytes ends) (numbered (generators bytes ends)) letters rests childrenR childrenS wholes
+    read-tree = rw (← all-words) tree-of-words

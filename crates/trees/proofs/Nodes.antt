@@ -12,42 +12,15 @@ use Rattle.words.specs.Bytes.{letter, byte, pick}
 use Rattle.words.proofs.Bytes.{letter-byte}
 use Rattle.products.specs.State.{State}
 use Rattle.trees.specs.Tree.{at, wordAt, Child, Tree}
+use Rattle.trees.specs.Numbering.{sameWord}
+use Rattle.trees.proofs.Numbering.{same-word-self, same-word-true}
 
 -- ---- the number of a word
-
-abbrev sameLetter : Letter → Letter → Bool
-sameLetter R R = true
-sameLetter R S = false
-sameLetter S R = false
-sameLetter S S = true
-
-abbrev sameWord : Word → Word → Bool
-sameWord [] [] = true
-sameWord [] (b ∷ v) = false
-sameWord (a ∷ u) [] = false
-sameWord (a ∷ u) (b ∷ v) = pick (sameLetter a b) (sameWord u v) false
 
 -- the first place of the word in the list, or the list's length where it has none
 abbrev pub node-number : List Word → Word → ℕ
 node-number [] q = 0
 node-number (w ∷ words) q = pick (sameWord w q) 0 (suc (node-number words q))
-
-same-word-self : (u : Word) → sameWord u u ≡ true
-same-word-self [] = refl
-same-word-self (R ∷ u) = same-word-self u
-same-word-self (S ∷ u) = same-word-self u
-
-not-true : {A : Type 0} → false ≡ true → A
-not-true e = let z : _≡_ {A = ℕ} 0 1 = cc in absurd (omega arith)
-
-same-word-true : (u v : Word) → sameWord u v ≡ true → u ≡ v
-same-word-true [] [] e = refl
-same-word-true [] (b ∷ v) e = not-true e
-same-word-true (a ∷ u) [] e = not-true e
-same-word-true (R ∷ u) (R ∷ v) e = ap (λ (w : Word). R ∷ w) (same-word-true u v e)
-same-word-true (R ∷ u) (S ∷ v) e = not-true e
-same-word-true (S ∷ u) (R ∷ v) e = not-true e
-same-word-true (S ∷ u) (S ∷ v) e = ap (λ (w : Word). S ∷ w) (same-word-true u v e)
 
 abbrev Found : List Word → Word → Type 0
 Found words q = (node-number words q < length words) × (wordAt words (node-number words q) ≡ q)
@@ -88,7 +61,7 @@ module _ {gens words : List Word} {letters rests childrenR childrenS wholes : Li
       ]
 
   -- the letter's byte, from the letter
-  byte-of : (a : Letter) (p : ℕ) → 0 < p → p < length words → letter (at letters p) ≡ a → at letters p ≡ byte a
+  pub byte-of : (a : Letter) (p : ℕ) → 0 < p → p < length words → letter (at letters p) ≡ a → at letters p ≡ byte a
   byte-of a p z h e =
       elim (ℕ-discrete (at letters p) 82) [
         | yes r ↦ r ∙ ap byte (sym (ap letter r) ∙ e)

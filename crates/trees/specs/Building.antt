@@ -1,11 +1,12 @@
 -- What building a tree promises. Assumes nothing: these are definitions.
 use mathlib.Core.Path.{_≡_}
-use mathlib.Core.List.{List, []}
+use mathlib.Core.List.{List}
 use Prim.Native.Nat.{ℕ, suc, _≤_, _<_}
 use lib.ListN.{length}
-use Rattle.words.specs.Word.{Word}
 use Rattle.products.specs.Product.{generators}
 use Rattle.trees.specs.Tree.{at, Tree}
+use Rattle.trees.specs.Numbering.{numbered}
+use Rattle.trees.specs.Growing.{tables, Remains}
 use Rattle.trees.specs.declared.Built.{Built}
 use Rattle.trees.specs.declared.Built.the-variants.{Nodes, Unfit}
 
@@ -29,11 +30,22 @@ pub record Slices : Type 0 where
   pub childrenS : List ℕ
   pub wholes : List ℕ
 
--- Where the inputs fit, the slices hold the tree of the list's generators, and the answer is how many nodes it has; else nothing changes.
+-- The slices hold the tree of the list's generators, whose nodes are numbered as they are read: this fixes (proofs/Unique.antt) the letter and the
+-- rest of each node but node 0, all children, and the node of each generator. Node 0's rest is 0. Its letter, which means nothing, and what stands
+-- behind the nodes are as they were.
+pub record BuildsTree (bytes ends : List ℕ) (before after : Slices) (count : ℕ) : Type 0 where
+  pub fits : Fits bytes ends (before .letters) (before .rests) (before .childrenR) (before .childrenS) (before .wholes)
+  pub tree :
+      Tree (generators bytes ends) (numbered (generators bytes ends)) (after .letters) (after .rests) (after .childrenR) (after .childrenS) (after .wholes)
+  pub counted : length (numbered (generators bytes ends)) ≡ count
+  pub few : count ≤ suc (length bytes)
+  pub remains :
+      Remains count (tables (before .letters) (before .rests) (before .childrenR) (before .childrenS))
+      (tables (after .letters) (after .rests) (after .childrenR) (after .childrenS))
+  pub root-rest : at (after .rests) 0 ≡ 0
+
+-- Where the inputs fit the tree is built, and the answer is how many nodes it has; else nothing changes.
 abbrev pub Builds : List ℕ → List ℕ → Slices → Slices → Built → Type 0
-Builds bytes ends before after (Nodes count) =
-    Fits bytes ends (before .letters) (before .rests) (before .childrenR) (before .childrenS) (before .wholes)
-    × ((words : List Word) × (length words ≡ count) × Tree (generators bytes ends) words (after .letters) (after .rests) (after .childrenR) (after .childrenS) (after .wholes))
-    × (count ≤ suc (length bytes))
+Builds bytes ends before after (Nodes count) = BuildsTree bytes ends before after count
 Builds bytes ends before after Unfit =
     (Fits bytes ends (before .letters) (before .rests) (before .childrenR) (before .childrenS) (before .wholes) → ⊥) × (after ≡ before)

@@ -1,13 +1,14 @@
 -- A tree of suffixes while it grows: its nodes so far, and what one call adds. Assumes nothing: these are definitions.
 use mathlib.Core.Path.{_≡_}
-use mathlib.Core.List.{List, [], _∷_, _++_}
+use mathlib.Core.List.{List, [], _∷_}
 use Prim.Native.Nat.{ℕ, suc, _+_, _≤_, _<_}
-use lib.ListN.{length}
+use lib.ListN.{length, drop}
 use Rattle.words.specs.Word.{Letter, R, S, Word}
 use Rattle.words.specs.Bytes.{letter}
 use Rattle.products.specs.Product.{generators, generator}
 use Rattle.products.specs.State.{State}
 use Rattle.trees.specs.Tree.{at, wordAt, Child}
+use Rattle.trees.specs.Numbering.{withAll, numbered}
 use Rattle.trees.specs.Ends.{endBefore}
 
 -- What the lent slices say of the nodes: letters, rests, the children by one letter and those by the other.
@@ -24,6 +25,7 @@ tables letters rests children others = record { letters = letters; rests = rests
 pub record Nodes (words : List Word) (letters rests : List ℕ) : Type 0 where
   pub some : 1 ≤ length words
   pub root : wordAt words 0 ≡ []
+  pub root-rest : at rests 0 ≡ 0
   pub rest-earlier : (p : ℕ) → 0 < p → p < length words → at rests p < p
   pub node : (p : ℕ) → 0 < p → p < length words → wordAt words p ≡ letter (at letters p) ∷ wordAt words (at rests p)
   pub spelled : (p : ℕ) → 0 < p → p < length words → (at letters p ≡ 82 → ⊥) → at letters p ≡ 83
@@ -52,30 +54,36 @@ pub record Room (n : ℕ) (t : Tables) : Type 0 where
   pub in-children : n ≤ length (t .children)
   pub in-others : n ≤ length (t .others)
 
-abbrev pub Suffix : Word → Word → Type 0
-Suffix w u = (x : Word) × (u ≡ x ++ w)
+-- What stands behind the first `count` nodes remains, and so does the letter of node 0, which means nothing.
+pub record Remains (count : ℕ) (before after : Tables) : Type 0 where
+  pub letters : drop count (after .letters) ≡ drop count (before .letters)
+  pub rests : drop count (after .rests) ≡ drop count (before .rests)
+  pub children : drop count (after .children) ≡ drop count (before .children)
+  pub others : drop count (after .others) ≡ drop count (before .others)
+  pub root-letter : at (after .letters) 0 ≡ at (before .letters) 0
 
--- The tree of `words` has grown by suffixes of `goal` at most; its nodes stay what they were; and `node` has the word `goal`.
+-- The tables hold the tree of `words`, with `count` nodes, and `node` has the word `goal`.
 pub record Grew (a b : Letter) (words : List Word) (goal : Word) (t : Tables) (node count : ℕ) : Type 0 where
-  pub all : List Word
-  pub counted : length all ≡ count
-  pub grown : Grown a b all t
-  pub more : length words ≤ length all
-  pub kept : (p : ℕ) → p < length words → wordAt all p ≡ wordAt words p
-  pub new : (p : ℕ) → length words ≤ p → p < length all → Suffix (wordAt all p) goal
-  pub inside : node < length all
-  pub spells : wordAt all node ≡ goal
+  pub counted : length words ≡ count
+  pub grown : Grown a b words t
+  pub inside : node < length words
+  pub spells : wordAt words node ≡ goal
 
--- What a call makes of any tree of `count` nodes: it adds at most `more` nodes, and finds or makes the node of the goal.
-pub record Grows (a b : Letter) (goal : List Word → Word) (more count : ℕ) (before after : Tables) (node count′ : ℕ) : Type 0 where
+-- What a call makes of any tree of `count` nodes: it reads the goal `into` the words, adds at most `more` nodes, writes nothing behind them, and
+-- answers the node of the goal.
+pub record Grows (a b : Letter) (into : List Word → Word → List Word) (goal : List Word → Word) (more count : ℕ) (before after : Tables) (node count′ : ℕ)
+    : Type 0 where
+  pub no-fewer : count ≤ count′
   pub few : count′ ≤ count + more
-  pub grew : (words : List Word) → length words ≡ count → Grown a b words before → Grew a b words (goal words) after node count′
+  pub remains : Remains count′ before after
+  pub grew : (words : List Word) → length words ≡ count → Grown a b words before → Grew a b (into words (goal words)) (goal words) after node count′
 
--- The first i generators of a list are in the tree.
+-- The first i generators of a list are in the tree; with the others the words are all.
 pub record Read (bytes ends : List ℕ) (i count : ℕ) (t : Tables) (wholes : List ℕ) : Type 0 where
   pub words : List Word
   pub counted : length words ≡ count
   pub grown : Grown R S words t
+  pub others : withAll words (drop i (generators bytes ends)) ≡ numbered (generators bytes ends)
   pub states : (p : ℕ) → p < length words → State (generators bytes ends) (wordAt words p)
   pub whole-inside : (j : ℕ) → j < i → at wholes j < length words
   pub whole : (j : ℕ) → j < i → wordAt words (at wholes j) ≡ generator (generators bytes ends) j

@@ -1,4 +1,5 @@
 pub mod Tree
+pub mod Numbering
 pub mod Building
 pub mod Ends
 pub mod Growing

@@ -9,6 +9,7 @@ ghost use lib.Seq.{slice};
 ghost use Rattle.words.specs.Word.{Letter, R, S};
 ghost use Rattle.words.specs.Bytes.{letter, byte as byteOf, word as wordOf};
 ghost use Rattle.trees.specs.Tree.{wordAt};
+ghost use Rattle.trees.specs.Numbering.{withWord, withSuffixes};
 ghost use Rattle.trees.specs.Growing.{tables, SomeGrown, Room, Grows};
 
 // A node, and how many nodes there are.
@@ -53,7 +54,7 @@ fn child_by(
     requires { ⌜ place .node < place .count ⌝ }
     requires { ⌜ Room (place .count + 1) (tables (now letters) (now rests) (now children) (now others)) ⌝ }
     ensures { λ r. ⌜ ((a b : Letter) → (a ≡ b → ⊥) → byte ≡ byteOf a
-        → Grows a b (λ words. a ∷ wordAt words (place .node)) 1 (place .count)
+        → Grows a b withWord (λ words. a ∷ wordAt words (place .node)) 1 (place .count)
         (tables (now (letters .entry)) (now (rests .entry)) (now (children .entry)) (now (others .entry)))
         (tables (now (letters .exit)) (now (rests .exit)) (now (children .exit)) (now (others .exit)))
         (r .node) (r .count)) ⌝ }
@@ -82,7 +83,7 @@ fn child(
 ) -> Place
     requires { ⌜ place .node < place .count ⌝ }
     requires { ⌜ Room (place .count + 1) (tables (now letters) (now rests) (now «children_r») (now «children_s»)) ⌝ }
-    ensures { λ r. ⌜ Grows R S (λ words. letter byte ∷ wordAt words (place .node)) 1 (place .count)
+    ensures { λ r. ⌜ Grows R S withWord (λ words. letter byte ∷ wordAt words (place .node)) 1 (place .count)
         (tables (now (letters .entry)) (now (rests .entry)) (now («children_r» .entry)) (now («children_s» .entry)))
         (tables (now (letters .exit)) (now (rests .exit)) (now («children_r» .exit)) (now («children_s» .exit)))
         (r .node) (r .count) ⌝ }
@@ -107,7 +108,7 @@ pub(crate) fn read_backwards(
     requires { ⌜ (from ≤ end) × (end ≤ length (now bytes)) ⌝ }
     requires { ⌜ Room (count + (end - from)) (tables (now letters) (now rests) (now «children_r») (now «children_s»)) ⌝ }
     requires { ⌜ SomeGrown R S count (tables (now letters) (now rests) (now «children_r») (now «children_s»)) ⌝ }
-    ensures { λ r. ⌜ Grows R S (λ words. wordOf (slice from end (now (bytes .entry)))) (end - from) count
+    ensures { λ r. ⌜ Grows R S withSuffixes (λ words. wordOf (slice from end (now (bytes .entry)))) (end - from) count
         (tables (now (letters .entry)) (now (rests .entry)) (now («children_r» .entry)) (now («children_s» .entry)))
         (tables (now (letters .exit)) (now (rests .exit)) (now («children_r» .exit)) (now («children_s» .exit)))
         (r .node) (r .count) ⌝ }

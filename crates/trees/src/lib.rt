@@ -11,8 +11,8 @@ pub enum Built {
     Unfit,
 }
 
-// Builds the tree of the list's generators in the lent slices, and answers how many nodes it has. Where the inputs do not fit it changes
-// nothing.
+// Builds the tree of the list's generators in the lent slices, and answers how many nodes it has. The nodes are numbered as they are read; what
+// stands behind them is left, and so is the letter of node 0. Where the inputs do not fit nothing changes.
 pub fn build(
     bytes: &[u8],
     ends: &[u16],

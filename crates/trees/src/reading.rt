@@ -2,12 +2,12 @@
 use crate::fitting;
 use crate::growing;
 ghost use mathlib.Core.Path.{_≡_};
-ghost use Prim.Native.Nat.{_+_, _<_};
+ghost use Prim.Native.Nat.{_+_, _≤_, _<_};
 ghost use lib.ListN.{length, set};
 ghost use Rattle.trees.specs.Building.{Fits};
-ghost use Rattle.trees.specs.Growing.{tables, Read};
+ghost use Rattle.trees.specs.Growing.{tables, Remains, Read};
 
-// Node 0, the empty word. Its letter may be anything.
+// Node 0, the empty word. Its letter may be anything, and is left.
 fn make_root(rests: &mut [u16], children_r: &mut [u16], children_s: &mut [u16])
     requires { ⌜ (0 < length (now rests)) × (0 < length (now «children_r»)) × (0 < length (now «children_s»)) ⌝ }
     ensures { λ _. ⌜ (now (rests .exit) ≡ set (now (rests .entry)) 0 0)
@@ -37,6 +37,9 @@ fn read_generator(
     ensures { λ r. ⌜ Read (now (bytes .entry)) (now (ends .entry)) (i + 1) r
         (tables (now (letters .exit)) (now (rests .exit)) (now («children_r» .exit)) (now («children_s» .exit)))
         (now (wholes .exit)) ⌝ }
+    ensures { λ r. ⌜ (count ≤ r) × Remains r
+        (tables (now (letters .entry)) (now (rests .entry)) (now («children_r» .entry)) (now («children_s» .entry)))
+        (tables (now (letters .exit)) (now (rests .exit)) (now («children_r» .exit)) (now («children_s» .exit))) ⌝ }
 {
     let from = fitting::end_before(ends, i);
     let end = fitting::entry(ends, i);
@@ -68,6 +71,9 @@ pub(crate) fn read_all(
     ensures { λ r. ⌜ Read (now (bytes .entry)) (now (ends .entry)) (length (now (ends .entry))) r
         (tables (now (letters .exit)) (now (rests .exit)) (now («children_r» .exit)) (now («children_s» .exit)))
         (now (wholes .exit)) ⌝ }
+    ensures { λ r. ⌜ Remains r
+        (tables (now (letters .entry)) (now (rests .entry)) (now («children_r» .entry)) (now («children_s» .entry)))
+        (tables (now (letters .exit)) (now (rests .exit)) (now («children_r» .exit)) (now («children_s» .exit))) ⌝ }
 {
     make_root(rests, children_r, children_s);
     let mut count = 1;

@@ -1,7 +1,7 @@
 -- Where the inputs fit, all generators are read, and the tree is theirs. Assumes nothing.
 use mathlib.Core.Path.{refl}
 use Rattle.trees.proofs.Ends.{fits-same}
-use Rattle.trees.proofs.Listed.{few-nodes, read-tree}
+use Rattle.trees.proofs.Listed.{few-nodes, count-nodes, read-tree}
 use borrow.Author.Needs.{needs}
 use Rattle.trees.proofs.build.Statement.{statement}
 use Rattle.trees.proofs.build.Tie as tie
@@ -37,10 +37,17 @@ returns c =
     let bytes = start .args .bytes .now in
     let ends = start .args .ends .now in
     let k = called .read-all .kept .1 .1 in
-    let t = called .read-all .ensures in
+    let t = called .read-all .ensures .0 in
     let f = rw (test .if1 .taken) at (test .before .fits2 .ensures) in
     let g = fits-same f (k .0) (k .1 .0) (k .1 .1 .0) (k .1 .1 .1 .0) (k .1 .1 .1 .1 .0) in
-    (f, (t .words, t .counted, read-tree bytes ends g t), few-nodes bytes ends g t)
+    record {
+      fits = f;
+      tree = read-tree bytes ends g t;
+      counted = count-nodes bytes ends g t;
+      few = few-nodes bytes ends g t;
+      remains = called .read-all .ensures .1;
+      root-rest = t .grown .nodes .root-rest;
+    }
 
 same-length-6 : tie.Need-same-length-6
 same-length-6 c = search needs

@@ -4,16 +4,16 @@ use mathlib.Core.List.{List, [], _++_}
 use Prim.Native.Nat.{ℕ, suc, _*_, _≤_}
 use lib.ListN.{length, take, drop, replicate, drop-of-length-le}
 use lib.Seq.{length-take-le, length-front, take-at}
-use Rattle.words.specs.Word.{Word}
 use Rattle.words.specs.Bytes.{word}
 use Rattle.words.proofs.NormalForm.{equal-path}
 use Rattle.products.specs.Product.{generators}
 use Rattle.products.proofs.Verdict.{verdict-empty}
+use Rattle.trees.specs.Numbering.{numbered}
+use Rattle.trees.proofs.Remaining.{drop-later}
 use Rattle.sizes.specs.Questions.{side}
 use Rattle.sizes.proofs.Passing.{SizesPassed, sizes-passed}
 use Rattle.engine.specs.Witness.{Planted}
 use Rattle.engine.proofs.Planting.{list-fits, list-planted, table-within, rows-within}
-use Rattle.engine.proofs.Verdicts.{drop-later}
 use native.Mathlib.Omega.{arith}
 use borrow.Author.Needs.{needs}
 use Rattle.engine.proofs.judging.decide.Statement.{statement}
@@ -37,11 +37,11 @@ built c = c .before .before .before .before .before .before .before
 
 -- the tree that is built has few nodes, and is planted
 few-nodes : (c : tie.After-count) → c .count .given .0 .0 ≤ suc (length (start c .args .letters .now))
-few-nodes c = (rw (c .count .given .1) at (c .before .before .before .before .before .before .before .build .ensures)) .2
+few-nodes c = (rw (c .count .given .1) at (c .before .before .before .before .before .before .before .build .ensures)) .few
 
 planted : (c : tie.After-count)
-    → (words : List Word)
-    × Planted (generators (start c .args .letters .now) (start c .args .ends .now)) words (c .count .given .0 .0) (start c .args .n .0)
+    → Planted (generators (start c .args .letters .now) (start c .args .ends .now))
+    (numbered (generators (start c .args .letters .now) (start c .args .ends .now))) (c .count .given .0 .0) (start c .args .n .0)
     (built c .build .last .1 .1 .0) (built c .build .last .1 .1 .1 .0) (built c .build .last .1 .1 .1 .1 .0) (built c .build .last .1 .1 .1 .1 .1 .0)
     (take (length (start c .args .ends .now)) (built c .build .last .1 .1 .1 .1 .1 .1 .0 ++ drop (length (start c .args .ends .now)) (replicate {A = ℕ} 64 0)))
     (start c .args .form .now)
@@ -49,9 +49,9 @@ planted c =
     let b = c .before .before .before .before .before .before .before .build in
     let p = start c .pre in
     let k = length (start c .args .ends .now) in
-    let tree = rw (c .count .given .1) at (b .ensures) in
     rw (take-at (b .last .1 .1 .1 .1 .1 .1 .0) (drop k (replicate {A = ℕ} 64 0)) k (b .kept .1 .1 .1 .1 .1 .1 .0 ∙ front (start c)))
-    (list-planted (p .0) (p .1 .0) (c .before .before .before .before .before .before .before .before .before .before .before .before .before .if1 .left) (asked (start c)) (tree .2) (tree .1))
+    (list-planted (p .0) (p .1 .0) (c .before .before .before .before .before .before .before .before .before .before .before .before .before .if1 .left) (asked (start c))
+    (rw (c .count .given .1) at (b .ensures)))
 
 returns : tie.Need-returns
 returns c =
@@ -121,7 +121,7 @@ search-requires c κs =
     let m = length (a .letters .now) in
     let t = length (a .form .now) in
     let count = counted .count .given .0 .0 in (
-      (_, planted counted .0, planted counted .1),
+      (_, _, planted counted),
       (omega (arith, table-within m t count few, passed .first-room), omega (arith, rows-within m t count few, passed .second-room), passed .room),
     )
 
@@ -149,7 +149,7 @@ returns-3 c =
     let t = length (a .form .now) in
     let count = counted .count .given .0 .0 in
     record {
-      right = s .ensures .0 _ (planted counted .0) (planted counted .1);
+      right = s .ensures .0 _ _ (planted counted);
       first = drop-later (count * count) (side m t * side m t) (s .last .1 .1 .1 .1 .1 .1 .1 .1 .0) (a .first .now) (table-within m t count few) (s .ensures .1 .0);
       second = drop-later (suc t * count) (side m t * side m t) (s .last .1 .1 .1 .1 .1 .1 .1 .1 .1 .0) (a .second .now) (rows-within m t count few) (s .ensures .1 .1);
     }

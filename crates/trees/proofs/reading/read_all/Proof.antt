@@ -4,9 +4,10 @@ use mathlib.Core.List.{List}
 use Prim.Native.Nat.{ℕ, _-_, _≤_}
 use lib.ListN.{length}
 use Rattle.trees.specs.Tree.{at}
-use Rattle.trees.specs.Growing.{tables, Read}
+use Rattle.trees.specs.Growing.{tables, Remains, Read}
 use Rattle.trees.proofs.Ends.{fits-same}
 use Rattle.trees.proofs.Behind.{at-same}
+use Rattle.trees.proofs.Remaining.{remains-same, remains-more, remains-root}
 use Rattle.trees.proofs.Listed.{read-begins}
 use borrow.Author.Needs.{needs}
 use native.Mathlib.Omega.{arith}
@@ -22,6 +23,7 @@ Inv-loop bytes ends letters₀ rests₀ children-r₀ children-s₀ wholes₀ co
     × (length children-s ≡ length children-s₀)
     × (length wholes ≡ length wholes₀)
     × Read bytes ends i count (tables letters rests children-r children-s) wholes
+    × Remains count (tables letters₀ rests₀ children-r₀ children-s₀) (tables letters rests children-r children-s)
 
 abbrev μ-loop : tie.MeasureT-loop
 μ-loop bytes ends letters₀ rests₀ children-r₀ children-s₀ wholes₀ count₀ i₀ letters rests children-r children-s wholes count i = length ends - i
@@ -49,8 +51,10 @@ loop-holds c =
           _
           _
           _
+          (ap (λ (l : List ℕ). at l 0) (made .0) ∙ at-same (a .rests .now) 0 0 (omega (arith, start .pre .room-rests)))
           (ap (λ (l : List ℕ). at l 0) (made .1) ∙ at-same (a .children-r .now) 0 0 (omega (arith, start .pre .room-r)))
           (ap (λ (l : List ℕ). at l 0) (made .2) ∙ at-same (a .children-s .now) 0 0 (omega (arith, start .pre .room-s))),
+      remains-same _ _,
     )
 
 read-generator-requires : tie.Need-read-generator-requires Inv-loop μ-loop
@@ -84,7 +88,8 @@ loop-again c =
       k .1 .1 .0 ∙ l .3,
       k .1 .1 .1 .0 ∙ l .4,
       k .1 .1 .1 .1 .0 ∙ l .5,
-      called .read-generator .ensures,
+      called .read-generator .ensures .0,
+      remains-more _ _ _ (called .read-generator .ensures .1 .0) (l .7) (called .read-generator .ensures .1 .1),
     )
 
 same-length : tie.Need-same-length Inv-loop μ-loop
@@ -108,7 +113,11 @@ returns c =
     let called = c .before .before .before .before .before .before .before .before in
     let start = called .before .before .before .before .before .before .before .before .before .before .before in
     let all : l .i ≡ length (start .args .ends .now) = omega (arith, l .inv .0, c .loop-test .left) in
-    rw (← all) (l .inv .6)
+    let a = start .args in
+    let made = called .make-root .ensures in
+    let read = l .inv .6 in
+    let root = remains-root (a .letters .now) (a .rests .now) (a .children-r .now) (a .children-s .now) (made .0) (made .1) (made .2) in
+    (rw (← all) read, remains-more _ _ _ (omega (arith, read .counted, read .grown .nodes .some)) root (l .inv .7))
 
 pub read-all-spec : {M : Type 1} → statement M
 read-all-spec =

@@ -64,17 +64,20 @@ returns c =
     let called = c .before .before .before .before .before .before .before .before .before in
     let read = called .before .before .before .before .before in
     let start = read .before .before .before .before .before .before .before .before .before in
-    read-more
-    (start .args .bytes .now)
-    (start .args .ends .now)
-    (start .pre .1 .0)
-    (start .pre .0)
-    (start .pre .1 .1)
-    _
-    _
-    (read .before .end-before .ensures)
-    (read .entry .ensures)
-    (called .read-backwards .ensures)
+    let grows = called .read-backwards .ensures in (
+      read-more
+          (start .args .bytes .now)
+          (start .args .ends .now)
+          (start .pre .1 .0)
+          (start .pre .0)
+          (start .pre .1 .1)
+          _
+          _
+          (read .before .end-before .ensures)
+          (read .entry .ensures)
+          grows,
+      (grows .no-fewer, grows .remains),
+    )
 
 pub read-generator-spec : {M : Type 1} → statement M
 read-generator-spec =
