@@ -6,7 +6,6 @@ mod WholeReads
 mod PlacedLists
 pub mod ListBytes
 pub mod MadeRead
-mod Fronts
 mod GeneratorFields
 mod GeneratorSpans
 mod PuttingList

@@ -6,8 +6,7 @@ use mathlib.Core.List.{List, [], _∷_, _++_, map, append-assoc}
 use Prim.Native.Nat.{ℕ, suc, _+_}
 use native.Mathlib.Omega.{arith}
 use lib.Dec.{leb, eqb}
-use lib.ListN.{length, take, drop, length-append}
-use lib.Seq.{slice, take-at, drop-at}
+use lib.ListN.{length, length-append}
 use borrow.Author.Tests.{le-leb, eq-eqb}
 use Rattle.words.specs.Word.{Word}
 use Rattle.words.specs.Bytes.{word}
@@ -16,6 +15,7 @@ use Rattle.words.specs.declared.Refusal.the-variants.{EndsWrong}
 use Rattle.words.specs.declared.Asked.{Asked}
 use Rattle.words.specs.declared.Asked.the-variants.{Passed}
 use Rattle.words.proofs.Asking.{yes-first}
+use Rattle.words.proofs.Slices.{slice-middle}
 use Rattle.lists.specs.Questions.{firstFall, lastEnd, question9}
 use Rattle.products.specs.Product.{generatorsFrom, generators}
 use Rattle.cards.specs.Card.{listBytes, listEnds}
@@ -60,18 +60,11 @@ list-ends-right list =
 
 -- ---- its generators
 
--- what stands between two ends is the letters that were put there
-middle : (done here rest : List ℕ) (from : ℕ) → length done ≡ from → slice from (from + length here) (done ++ (here ++ rest)) ≡ here
-middle done here rest from h =
-    ap (drop from)
-    (ap (take (from + length here)) (sym (append-assoc done here rest)) ∙ take-at (done ++ here) rest (from + length here) (omega (arith, length-append done here, h)))
-    ∙ drop-at done here from h
-
 generators-behind : (list : List (List ℕ)) (done : List ℕ) (from : ℕ) → length done ≡ from
     → generatorsFrom (done ++ listBytes list) from (listEnds from list) ≡ map word list
 generators-behind [] done from h = refl
 generators-behind (g ∷ list) done from h =
-    ap₂ (λ (x : Word) (y : List Word). x ∷ y) (ap word (middle done g (listBytes list) from h))
+    ap₂ (λ (x : Word) (y : List Word). x ∷ y) (ap word (slice-middle done g (listBytes list) from h))
     (ap (λ (l : List ℕ). generatorsFrom l (from + length g) (listEnds (from + length g) list)) (sym (append-assoc done g (listBytes list)))
     ∙ generators-behind list (done ++ g) (from + length g) (omega (arith, length-append done g, h)))
 

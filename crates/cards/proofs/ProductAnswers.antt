@@ -15,12 +15,12 @@ use Rattle.words.specs.declared.Asked.{Asked}
 use Rattle.words.specs.declared.Asked.the-variants.{Refused}
 use Rattle.words.proofs.Asking.{no-first, refused-first}
 use Rattle.words.proofs.Bytes.{word-bytes, length-bytes}
+use Rattle.words.proofs.FirstOther.{first-other-bytes}
 use Rattle.words.proofs.NormalForm.{nf-of-normal}
 use Rattle.products.specs.Product.{generators}
 use Rattle.lists.specs.Questions.{ofList, question11}
 use Rattle.lists.specs.NormalList.{total}
 use Rattle.sizes.specs.Questions.{side, question13, question15, ofSizes}
-use Rattle.matrices.proofs.RoundTrip.{letters-only}
 use Rattle.engine.specs.Questions.{ofProduct}
 use Rattle.engine.specs.Calls.{Lent, Judged}
 use Rattle.engine.specs.declared.Verdict.the-variants.{Refused as Verdict·Refused}
@@ -74,6 +74,6 @@ module _ (n : ℕ) (list : List (List ℕ)) where
         → AnswersProduct n [] w list r before after
     word-answered short {r} before after answers =
         let (v, e, judged) = subst (λ (x : Word). AnswersProduct n (bytes w) x list r before after) (word-bytes w) answers in
-        let pass = list-before-letters (listBytes list) (listEnds 0 list) (bytes w) (omega (arith, short, length-bytes w)) (omega (arith, letters-only w)) in
+        let pass = list-before-letters (listBytes list) (listEnds 0 list) (bytes w) (omega (arith, short, length-bytes w)) (omega (arith, first-other-bytes w)) in
         let same : asked (bytes w) w before ≡ asked [] w before = ap (λ (a : Asked). firstNo (a ∷ question11 gens ∷ sizes w before ∷ [])) pass in
         (v, e, subst (λ (a : Asked). Judged a (q w) gens w n v before after) same judged)

@@ -1,18 +1,18 @@
 -- The loop that puts a list's generators one behind the other: those that are done stand in the fronts of the two slices, those that are left in
 -- the rest of the card.
 -- Assumes nothing.
-use mathlib.Core.Path.{_≡_, refl, sym, ap, ap₂, _∙_}
+use mathlib.Core.Path.{_≡_, refl, sym, ap, _∙_}
 use mathlib.Core.List.{List, [], _∷_, _++_, append-assoc, append-nil}
 use Prim.Native.Nat.{ℕ, suc, _+_, _-_, _≤_, _<_}
 use native.Mathlib.Omega.{arith}
 use lib.ListN.{length, drop, set, length-append}
 use lib.Seq.{paste}
 use Rattle.words.specs.Slices.{overwritten}
+use Rattle.words.proofs.Slices.{front-pasted, front-stored}
 use Rattle.fields.specs.Field.{Whole}
 use Rattle.cards.specs.Card.{generatorFields, listBytes, listEnds}
 use Rattle.cards.specs.Reading.{Listed}
 use Rattle.cards.specs.Flattening.{GeneratorAt, ShortGenerator, PutsGenerator, PutsList}
-use Rattle.cards.proofs.Fronts.{front-copied, front-stored}
 use Rattle.cards.proofs.GeneratorFields.{First, first-generator, no-generators}
 use Rattle.cards.proofs.ListBytes.{list-bytes-append, list-ends-append, list-ends-length}
 
@@ -94,12 +94,10 @@ module _ {card : List ℕ} {count : ℕ} {list : List (List ℕ)} {old oldEnds l
             long = omega (arith, ap length bytes, length-append (listBytes (p .done)) g, p .long, put .answer);
             letters-are =
                 put .letters ∙ ap (λ (l : List ℕ). paste l sum g r) (p .letters-are)
-                ∙ ap₂ (λ (m n : ℕ). paste (overwritten (listBytes (p .done)) old) m g n) (sym (p .long)) (put .answer)
-                ∙ front-copied (listBytes (p .done)) old g ∙ ap (λ (l : List ℕ). overwritten l old) (sym bytes);
+                ∙ front-pasted (listBytes (p .done)) old sum (p .long) g r (sym (put .answer)) ∙ ap (λ (l : List ℕ). overwritten l old) (sym bytes);
             ends-are =
                 put .ends ∙ ap (λ (l : List ℕ). set l i (sum + r)) (p .ends-are)
-                ∙ ap (λ (n : ℕ). set (overwritten (listEnds 0 (p .done)) oldEnds) n (sum + r)) (sym behind)
-                ∙ front-stored (listEnds 0 (p .done)) oldEnds (sum + r) (omega (arith, behind)) ∙ ap (λ (l : List ℕ). overwritten l oldEnds) (sym its-ends);
+                ∙ front-stored (listEnds 0 (p .done)) oldEnds i behind (sum + r) room ∙ ap (λ (l : List ℕ). overwritten l oldEnds) (sym its-ends);
           }
 
   pub putting-over : i ≡ count → PutsList list old letters oldEnds ends

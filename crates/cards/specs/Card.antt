@@ -77,7 +77,7 @@ afterBound map n bs = next (targetField map bs) (afterTarget map n)
 abbrev pub fields : ℕ → List ℕ → Read Card
 fields map bs = next (boundField map bs) (afterBound map)
 
--- the bit map, and the fields that it tells of
+-- The bit map, and the fields that it tells of. Question 2 comes first and refuses a card without a first byte, so the first clause is never used.
 abbrev pub cardOf : List ℕ → Read Card
 cardOf [] = Cut
 cardOf (map ∷ bs) = fields map bs

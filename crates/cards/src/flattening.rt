@@ -2,11 +2,11 @@
 use fields::Span;
 use fields::letters_after;
 use words::Refusal;
+use words::copying::copy_at;
 ghost use mathlib.Core.Path.{_≡_};
 ghost use mathlib.Core.List.{List};
-ghost use Prim.Native.Nat.{ℕ, _+_, _≤_, _<_};
+ghost use Prim.Native.Nat.{ℕ, _≤_, _<_};
 ghost use lib.ListN.{length};
-ghost use lib.Seq.{paste};
 ghost use Rattle.cards.specs.Card.{listBytes};
 ghost use Rattle.cards.specs.Reading.{Listed, SomeListed, Flattens};
 ghost use Rattle.cards.specs.Flattening.{GeneratorAt, ShortGenerator, PutsGenerator, ShortListed, PutsList};
@@ -15,18 +15,6 @@ ghost use Rattle.cards.specs.Flattening.{GeneratorAt, ShortGenerator, Pu
 pub(crate) enum Flat {
     Letters(usize),
     Refused(Refusal),
-}
-
-// Copies `from` behind the first `at` bytes of `to`.
-fn copy_to(from: &[u8], to: &mut [u8], at: usize)
-    requires { ⌜ at + length (now from) ≤ length (now to) ⌝ }
-    ensures { λ _. ⌜ now (to .exit) ≡ paste (now (to .entry)) at (now (from .entry)) (length (now (from .entry))) ⌝ }
-{
-    let mut i = 0;
-    while i < from.len() {
-        to[at + i] = from[i];
-        i += 1;
-    }
 }
 
 // Puts the generator whose length stands at `at` behind the first `sum` letters, and its end behind the first i ends. The answer is how many
@@ -48,7 +36,7 @@ fn put_generator(
         Span::Cut => 0,
         Span::Whole(from, end) => {
             let len = end - from;
-            copy_to(&card[from..end], letters, sum);
+            copy_at(&card[from..end], letters, sum);
             ends[i] = (sum + len) as u16;
             len
         }

@@ -134,7 +134,6 @@ module _ {count n : ℕ} {childrenR childrenS target table before : List ℕ} (f
       pub fits-r : RowFits count n childrenR table i rows
       fits-r =
           record {
-            few = fits .few;
             bound = fits .bound;
             children-room = fits .room-r;
             inside = fits .inside-r;
@@ -147,7 +146,6 @@ module _ {count n : ℕ} {childrenR childrenS target table before : List ℕ} (f
       pub fits-s : RowFits count n childrenS table i rows
       fits-s =
           record {
-            few = fits .few;
             bound = fits .bound;
             children-room = fits .room-s;
             inside = fits .inside-s;

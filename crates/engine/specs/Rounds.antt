@@ -45,7 +45,6 @@ pub record RoundFits (n : ℕ) (first table : List ℕ) (w : ℕ) : Type 0 where
 
 -- What makes it safe to make row i + 1 of row i.
 pub record RowFits (count n : ℕ) (children table : List ℕ) (i : ℕ) (rows : List ℕ) : Type 0 where
-  pub few : count ≤ 321
   pub bound : n ≤ 1000
   pub children-room : count ≤ length children
   pub inside : (p : ℕ) → p < count → at children p < count

@@ -1,14 +1,15 @@
 -- The reduced list: its generators are the normal forms of the given list's. Assumes nothing.
-use mathlib.Core.Path.{_≡_, refl, sym, ap, ap₂, subst, _∙_}
-use mathlib.Core.List.{List, [], _∷_, _++_, map, append-assoc, append-nil}
+use mathlib.Core.Path.{_≡_, refl, sym, ap, ap₂, _∙_}
+use mathlib.Core.List.{List, [], _∷_, _++_, map, append-assoc}
 use Prim.Native.Nat.{ℕ, zero, suc, _+_, _≤_, _<_}
 use native.Mathlib.Nat.{le-of-suc-le-suc, not-suc-le-zero}
 use native.Mathlib.Omega.{arith}
-use lib.ListN.{length, take, drop, getD, length-append}
-use lib.Seq.{slice, take-at, drop-at}
+use lib.ListN.{length, getD, length-append}
+use lib.Seq.{slice}
 use Rattle.words.specs.Word.{Word, nf}
 use Rattle.words.specs.Bytes.{word, bytes}
 use Rattle.words.proofs.Bytes.{word-bytes, length-bytes}
+use Rattle.words.proofs.Slices.{slice-middle}
 use Rattle.products.specs.Product.{generatorsFrom, generators}
 use Rattle.lists.specs.NormalList.{total, normalBytes, normalEnds}
 
@@ -20,16 +21,10 @@ pub normal-ends-length : (from : ℕ) (gens : List Word) → length (normalEnds 
 normal-ends-length from [] = refl
 normal-ends-length from (g ∷ gens) = ap suc (normal-ends-length (from + length (nf g)) gens)
 
--- what stands between two ends is the letters that were put there
-middle : (done here rest : List ℕ) (from : ℕ) → length done ≡ from → slice from (from + length here) (done ++ (here ++ rest)) ≡ here
-middle done here rest from h =
-    ap (drop from) (ap (take (from + length here)) (sym (append-assoc done here rest)) ∙ take-at (done ++ here) rest (from + length here) (omega (arith, length-append done here, h)))
-    ∙ drop-at done here from h
-
 first-form : (g : Word) (done rest : List ℕ) (from : ℕ) → length done ≡ from → word (slice from (from + length (nf g)) (done ++ (bytes (nf g) ++ rest))) ≡ nf g
 first-form g done rest from h =
     ap (λ (k : ℕ). word (slice from (from + k) (done ++ (bytes (nf g) ++ rest)))) (sym (length-bytes (nf g)))
-    ∙ ap word (middle done (bytes (nf g)) rest from h) ∙ word-bytes (nf g)
+    ∙ ap word (slice-middle done (bytes (nf g)) rest from h) ∙ word-bytes (nf g)
 
 from-done : (gens : List Word) (done : List ℕ) (from : ℕ) → length done ≡ from → generatorsFrom (done ++ normalBytes gens) from (normalEnds from gens) ≡ map nf gens
 from-done [] done from h = refl

@@ -41,11 +41,11 @@ module _ (bytes ends target : List ℕ) where
   abbrev from8 : List Asked
   from8 = question8 (length target) ∷ from9
 
-  pub too-many-generators : 64 < length ends → ofList bytes ends target ≡ Refused TooManyGenerators
-  too-many-generators h = no-first (leb (length ends) 64) TooManyGenerators (question8 (length bytes) ∷ from8) (lt-leb (length ends) 64 h)
-
   few-generators : length ends ≤ 64 → ofList bytes ends target ≡ firstNo (question8 (length bytes) ∷ from8)
   few-generators h = yes-first (leb (length ends) 64) TooManyGenerators (question8 (length bytes) ∷ from8) (le-leb (length ends) 64 h)
+
+  pub too-many-generators : 64 < length ends → ofList bytes ends target ≡ Refused TooManyGenerators
+  too-many-generators h = no-first (leb (length ends) 64) TooManyGenerators (question8 (length bytes) ∷ from8) (lt-leb (length ends) 64 h)
 
   pub too-many-letters : length ends ≤ 64 → 4096 < length bytes → ofList bytes ends target ≡ Refused TooManyLetters
   too-many-letters h k = few-generators h ∙ no-first (leb (length bytes) 4096) TooManyLetters from8 (lt-leb (length bytes) 4096 k)

@@ -12,7 +12,8 @@ use Rattle.products.specs.Product.{generators}
 use Rattle.lists.specs.Questions.{ofList, question11}
 use Rattle.lists.specs.NormalList.{total, normalBytes, normalEnds}
 
--- what is asked: the questions of the list alone, and room for m letters and for the ends
+-- What is asked: the questions of the list alone, and then room for the result, which is m letters and the ends. This is not document 01's
+-- question 14, which asks for the input's length: 01 does not have this call, and a refusal for want of room only bears that question's name.
 abbrev pub ofReducedList : List ℕ → List ℕ → ℕ → ℕ → Asked
 ofReducedList bytes ends room roomEnds =
     firstNo (ofList bytes ends [] ∷ question11 (generators bytes ends) ∷ question14 (total (generators bytes ends)) room ∷ question14 (length ends) roomEnds ∷ [])

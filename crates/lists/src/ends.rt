@@ -1,6 +1,7 @@
 // The questions about a list's ends, and about the letters of a list and a target together.
 use words::Asked;
 use words::Refusal;
+use words::widening::wide;
 ghost use mathlib.Core.Path.{_≡_};
 ghost use mathlib.Core.List.{_++_};
 ghost use Prim.Native.Nat.{_+_, _≤_};
@@ -33,12 +34,6 @@ fn last_end(ends: &[u16]) -> usize
         return 0;
     }
     wide(ends[ends.len() - 1])
-}
-
-fn wide(x: u16) -> usize
-    ensures { λ r. ⌜ r ≡ x ⌝ }
-{
-    x as usize
 }
 
 // Question 9.

@@ -1,5 +1,7 @@
 // The generators of a list, reduced one after the other. A list is here one that has passed questions 7 to 10.
 use words::Written;
+use words::copying::copy_at;
+use words::widening::wide;
 ghost use mathlib.Core.Path.{_≡_};
 ghost use Prim.Native.Nat.{_+_, _≤_, _<_};
 ghost use lib.ListN.{length, take, set};
@@ -11,12 +13,6 @@ ghost use Rattle.products.specs.Product.{generators};
 ghost use Rattle.lists.specs.Questions.{firstLong};
 ghost use Rattle.lists.specs.NormalList.{total, normalBytes, normalEnds};
 ghost use Rattle.lists.specs.Reducing.{Checked, AllLetters};
-
-fn wide(x: u16) -> usize
-    ensures { λ r. ⌜ r ≡ x ⌝ }
-{
-    x as usize
-}
 
 // Writes the normal form of the generator that runs from one end up to another to the front of `form`.
 fn normal_form(bytes: &[u8], from: usize, end: usize, form: &mut [u8]) -> usize
@@ -64,18 +60,6 @@ pub(crate) fn measure(bytes: &[u8], ends: &[u16]) -> Measured
         i += 1;
     }
     Measured { long: i, sum }
-}
-
-// Writes all of `from` to `to`, from the place `at` on.
-fn copy_at(from: &[u8], to: &mut [u8], at: usize)
-    requires { ⌜ at + length (now from) ≤ length (now to) ⌝ }
-    ensures { λ _. ⌜ now (to .exit) ≡ paste (now (to .entry)) at (now (from .entry)) (length (now (from .entry))) ⌝ }
-{
-    let mut i = 0;
-    while i < from.len() {
-        to[at + i] = from[i];
-        i += 1;
-    }
 }
 
 // Puts a normal form behind the letters that are there already, and its end behind the ends.

@@ -5,12 +5,12 @@
 use mathlib.Core.Path.{_≡_, refl, sym, ap, subst, _∙_}
 use mathlib.Core.Logic.{inl, inr}
 use mathlib.Core.List.{List, [], _∷_}
-use Prim.Native.Nat.{ℕ, suc, _≤_}
+use Prim.Native.Nat.{ℕ, _≤_}
 use native.Mathlib.Omega.{arith}
 use lib.Dec.{leb}
 use lib.ListN.{length, take}
 use borrow.Author.Tests.{le-leb, leb-true}
-use Rattle.words.specs.Word.{R, S, Word, nf}
+use Rattle.words.specs.Word.{Word, nf}
 use Rattle.words.specs.Bytes.{word, bytes}
 use Rattle.words.specs.Questions.{firstNo, firstOther, question8, question10, question12, ofLetters}
 use Rattle.words.specs.Slices.{overwritten, written}
@@ -23,6 +23,7 @@ use Rattle.words.specs.declared.Written.{Written}
 use Rattle.words.specs.declared.Written.the-variants.{Length}
 use Rattle.words.proofs.Asking.{asks-yes, asks-passed, first-no-head, first-no-tail, first-no-one}
 use Rattle.words.proofs.Bytes.{word-bytes, length-bytes}
+use Rattle.words.proofs.FirstOther.{first-other-bytes}
 use Rattle.words.proofs.NormalForm.{nf-of-normal}
 use Rattle.unimodular.specs.Matrix.{Matrix, UpToSign, matrixOf, signed, NormalFormOf}
 use Rattle.unimodular.proofs.Integers.{natAbs-negℤ}
@@ -105,12 +106,6 @@ module _ (w : List ℕ) (e : Entries) (h : TurnsWord w (Into e)) where
 
 -- ---- a matrix, its normal form, and back
 
--- every byte of a word is a letter
-pub letters-only : (w : Word) → firstOther (bytes w) ≡ length (bytes w)
-letters-only [] = refl
-letters-only (R ∷ w) = ap suc (letters-only w)
-letters-only (S ∷ w) = ap suc (letters-only w)
-
 -- a word of at most 80 letters passes questions 8 and 10
 of-bytes : (w : Word) → length w ≤ 80 → ofLetters (bytes w) ≡ Passed
 of-bytes w l = λ i. firstNo (eighth i ∷ tenth i ∷ [])
@@ -121,7 +116,7 @@ of-bytes w l = λ i. firstNo (eighth i ∷ tenth i ∷ [])
     tenth : question10 (bytes w) ≡ Passed
     tenth =
         asks-yes (leb (length (bytes w)) (firstOther (bytes w))) (NotALetter (firstOther (bytes w)))
-        (le-leb (length (bytes w)) (firstOther (bytes w)) (omega (arith, letters-only w)))
+        (le-leb (length (bytes w)) (firstOther (bytes w)) (omega (arith, first-other-bytes w)))
 
 -- entries that differ in sign are equally large
 small-sign : {m n : Matrix} → UpToSign m n → Small n → Small m

@@ -1,6 +1,5 @@
 // Elements of the modular group as 2 by 2 matrices of determinant 1, up to sign: a word turned into its matrix, and a matrix into its
 // normal form. Both calls take any input whatever.
-mod copying;
 mod ending;
 mod forming;
 mod peeling;
@@ -13,6 +12,7 @@ use words::Asked;
 use words::Letters;
 use words::Refusal;
 use words::Written;
+use words::copying::copy_at;
 ghost use mathlib.Core.Path.{_≡_};
 ghost use Prim.Native.Nat.{_≤_};
 ghost use lib.ListN.{length};
@@ -56,14 +56,15 @@ fn write_out(form: &[u8], out: &mut [u8]) -> Written
     ensures { λ r. ⌜ r ≡ lengthOr (ofLength (length (now (form .entry))) (length (now (out .entry)))) (length (now (form .entry))) ⌝ }
     ensures { λ _. ⌜ now (out .exit) ≡ written (ofLength (length (now (form .entry))) (length (now (out .entry)))) (now (form .entry)) (now (out .entry)) ⌝ }
 {
-    if 80 < form.len() {
+    let len = form.len();
+    if 80 < len {
         return Written::Refused(Refusal::NormalFormTooLong);
     }
     if out.len() < 80 {
         return Written::Refused(Refusal::OutputTooShort);
     }
-    copying::copy(form, out);
-    Written::Length(Letters(form.len() as u16))
+    copy_at(form, out, 0);
+    Written::Length(Letters(len as u16))
 }
 
 // Writes the normal form of `m` to the front of `out`.

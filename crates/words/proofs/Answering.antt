@@ -5,7 +5,7 @@ use mathlib.Core.List.{List, [], _∷_}
 use Prim.Native.Nat.{ℕ, _*_, _≤_}
 use native.Mathlib.Omega.{arith}
 use lib.Dec.{leb}
-use lib.ListN.{length, take, drop}
+use lib.ListN.{length, take}
 use lib.Seq.{take-at}
 use borrow.Author.Tests.{le-leb}
 use Rattle.words.specs.Word.{Word, nf}
@@ -49,7 +49,7 @@ passed-of-answer (Refused other) n e = let z : _≡_ {A = ℕ} 0 1 = cc in absur
 
 -- a slice whose front is the new word
 pub take-overwritten : (new old : List ℕ) (n : ℕ) → n ≡ length new → take n (overwritten new old) ≡ new
-take-overwritten new old n e = take-at new (drop (length new) old) n (sym e)
+take-overwritten new old n e = take-at new _ n (sym e)
 
 -- ---- a reduction into 4,096 bytes, which are room enough for a word that passes question 8
 

@@ -72,11 +72,11 @@ of-letters-short w e =
     leb-true (length w) 4096 (asks-passed (leb (length w) 4096) TooManyLetters (first-no-head (question8 (length w)) (question10 w ∷ []) e))
 
 module _ (w : List ℕ) (needed room : ℕ) where
-  pub of-word-room : ofLetters w ≡ Passed → ofWord w needed room ≡ question14 needed room
-  of-word-room e = first-no-passed (question8 (length w) ∷ question10 w ∷ []) (question14 needed room ∷ []) e ∙ first-no-one (question14 needed room)
-
   pub of-word-refused : {refusal : Refusal} → ofLetters w ≡ Refused refusal → ofWord w needed room ≡ Refused refusal
   of-word-refused e = first-no-refused (question8 (length w) ∷ question10 w ∷ []) (question14 needed room ∷ []) e
+
+  pub of-word-room : ofLetters w ≡ Passed → ofWord w needed room ≡ question14 needed room
+  of-word-room e = first-no-passed (question8 (length w) ∷ question10 w ∷ []) (question14 needed room ∷ []) e ∙ first-no-one (question14 needed room)
 
   pub of-word-passed : ofWord w needed room ≡ Passed → (length w ≤ 4096) × (needed ≤ room)
   of-word-passed e =

@@ -7,7 +7,8 @@ use native.Mathlib.Numerals.{add-one}
 use native.Mathlib.Omega.{arith}
 use lib.ListN.{length, drop, getD}
 use lib.Seq.{drop-cons}
-use Rattle.words.specs.Bytes.{pick}
+use Rattle.words.specs.Word.{R, S, Word}
+use Rattle.words.specs.Bytes.{pick, bytes}
 use Rattle.words.specs.Questions.{isLetter, firstOther}
 
 pub first-other-more : (w : List ℕ) (i : ℕ) → i < length w → isLetter (getD w i 0) ≡ true → firstOther (drop i w) ≡ suc (firstOther (drop (i + 1) w))
@@ -15,3 +16,9 @@ first-other-more w i h e = rw (add-one i) (ap firstOther (drop-cons w i 0 h) ∙
 
 pub first-other-here : (w : List ℕ) (i : ℕ) → i < length w → isLetter (getD w i 0) ≡ false → firstOther (drop i w) ≡ 0
 first-other-here w i h e = ap firstOther (drop-cons w i 0 h) ∙ ap (λ b. pick b (suc (firstOther (drop (suc i) w))) 0) e
+
+-- every byte of a word is a letter
+pub first-other-bytes : (w : Word) → firstOther (bytes w) ≡ length (bytes w)
+first-other-bytes [] = refl
+first-other-bytes (R ∷ w) = ap suc (first-other-bytes w)
+first-other-bytes (S ∷ w) = ap suc (first-other-bytes w)

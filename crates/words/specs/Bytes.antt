@@ -17,7 +17,7 @@ byte S = 83
 abbrev pub bytes : Word → List ℕ
 bytes w = map byte w
 
--- 82 is R. Every other byte is taken for S: a byte that is neither 82 nor 83 is refused by question 10 before a word is read.
+-- 82 is R. Every other byte is taken for S: where document 01 has a word, a byte that is neither 82 nor 83 has been refused by question 10.
 abbrev pub letter : ℕ → Letter
 letter b = pick (eqb b 82) R S
 

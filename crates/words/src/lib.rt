@@ -1,9 +1,10 @@
 // Words in R and S, where RR and SSS vanish and no other rule holds: reduction to the normal form, inversion, and a test of
 // normality. Every call takes any slices whatever: it answers, or refuses by document 01's questions and changes nothing.
 mod arrival;
-mod copying;
+pub mod copying;
 mod normality;
 pub mod questions;
+pub mod widening;
 
 ghost use mathlib.Core.Path.{_≡_};
 ghost use Prim.Native.Nat.{_≤_};
@@ -67,7 +68,7 @@ fn write_out(stack: &[u8], len: usize, out: &mut [u8]) -> Written
     ensures { λ r. ⌜ r ≡ Written.Length (record { 0 = len }) ⌝ }
     ensures { λ _. ⌜ now (out .exit) ≡ overwritten (take len (now (stack .entry))) (now (out .entry)) ⌝ }
 {
-    copying::copy(&stack[..len], out);
+    copying::copy_at(&stack[..len], out, 0);
     Written::Length(Letters(len as u16))
 }
 

@@ -20,23 +20,18 @@ use Rattle.matrices.proofs.peeling.peel_all.Reads as peel-all-reads
 use Rattle.matrices.proofs.questions.of_entries.Reads as of-entries-reads
 use Rattle.matrices.proofs.write_out.Reads as write-out-reads
 
--- src/lib.rt:73:11
 of-entries-requires : tie.Need-of-entries-requires
 of-entries-requires c κs = search needs
 
--- src/lib.rt:74:24
 enum-known-refusal : tie.Need-enum-known-refusal
 enum-known-refusal c = search needs
 
--- src/lib.rt:76:17
 enum-told : tie.Need-enum-told
 enum-told c = search needs
 
--- src/lib.rt:77:43
 slice-aggregate-peel-all : tie.Need-slice-aggregate-peel-all
 slice-aggregate-peel-all c = search needs
 
--- src/lib.rt:77:17
 peel-all-requires : tie.Need-peel-all-requires
 peel-all-requires c κs =
     let m = matrix (c .before .before .before .before .before .args .m) in
@@ -44,33 +39,26 @@ peel-all-requires c κs =
     let s = small-of-passed m (passed-in-range m e) in
     (passed-determinant m e, (omega arith, refl))
 
--- src/lib.rt:78:23
 sub-write-out : tie.Need-sub-write-out
 sub-write-out c = search needs
 
--- src/lib.rt:78:23
 part-write-out-start : tie.Need-part-write-out-start
 part-write-out-start c = search needs
 
--- src/lib.rt:78:23
 part-write-out-end : tie.Need-part-write-out-end
 part-write-out-end c = search needs
 
--- src/lib.rt:78:13
 write-out-requires : tie.Need-write-out-requires
 write-out-requires c κs = search needs
 
--- src/lib.rt:70:1
 returns : tie.Need-returns
 returns c =
     let a = c .before .before .before .before .before .args in
     turns-refused (matrix (a .m)) (a .out .now) (sym (c .before .before .before .of-entries .ensures) ∙ c .before .refusal .given .1)
 
--- src/lib.rt:70:1
 same-length : tie.Need-same-length
 same-length c = search needs
 
--- src/lib.rt:70:1
 returns-2 : tie.Need-returns-2
 returns-2 c =
     let a = c .before .before .before .before .before .before .before .before .before .before .before .before .before .args in

@@ -36,49 +36,39 @@ the-form c =
     let w = c .before .before .before .before .before .before .args .word .now in
     ap wordOf (reduce-form w _ _ _ (c .before .before .before .reduce .ensures) refl (c .letters .given .1)) ∙ word-bytes (nf (wordOf w))
 
--- src/lib.rt:44:31
 slice-aggregate-reduce : tie.Need-slice-aggregate-reduce
 slice-aggregate-reduce c = search needs
 
--- src/lib.rt:44:11
 reduce-requires : tie.Need-reduce-requires
 reduce-requires c κs = search needs
 
--- src/lib.rt:45:26
 enum-known-refusal : tie.Need-enum-known-refusal
 enum-known-refusal c = search needs
 
--- src/lib.rt:46:25
 enum-known-letters : tie.Need-enum-known-letters
 enum-known-letters c = search needs
 
--- src/lib.rt:47:23
 cast-len : tie.Need-cast-len
 cast-len c = search needs
 
--- src/lib.rt:48:37
 array-share-prefix-form : tie.Need-array-share-prefix-form
 array-share-prefix-form c = short (c .before .before)
 
--- src/lib.rt:48:37
 slice-aggregate-of-normal-form : tie.Need-slice-aggregate-of-normal-form
 slice-aggregate-of-normal-form c =
     sym (length-take-le (c .before .before .before .letters .given .0 .0 .0) (c .before .before .before .before .before .before .reduce .last .1 .0) (short (c .before .before .before)))
 
--- src/lib.rt:48:13
 of-normal-form-requires : tie.Need-of-normal-form-requires
 of-normal-form-requires c κs =
     let w = c .before .before .before .before .before .before .before .before .before .args .word .now in
     subst Normal (sym (the-form (c .before .before .before))) (nf-normal (wordOf w))
 
--- src/lib.rt:40:1
 returns : tie.Need-returns
 returns c =
     let w = c .before .before .before .before .before .before .before .args .word .now in
     let e = letters-refused w (reduce-refused w _ _ _ (c .before .before .before .before .reduce .ensures) refl (c .before .refusal .given .1)) in
     sym (ap (λ (a : Asked). matrixOr a (signed (matrixOf (wordOf w)))) e)
 
--- src/lib.rt:40:1
 returns-2 : tie.Need-returns-2
 returns-2 c =
     let w = c .before .before .before .before .before .before .before .before .before .before .args .word .now in

@@ -6,14 +6,15 @@ use lib.ListN.{length}
 use Rattle.words.specs.Slices.{written}
 use Rattle.words.specs.Calls.{lengthOr}
 use Rattle.words.specs.declared.Asked.{Asked}
+use Rattle.words.proofs.Slices.{pasted-front}
 use Rattle.matrices.specs.Peeling.{ofLength}
 use Rattle.matrices.proofs.Writing.{letters-too-many, room-too-small, letters-and-room}
 use borrow.Author.Needs.{needs}
+use native.Mathlib.Omega.{arith}
 use Rattle.matrices.proofs.write_out.Statement.{statement}
 use Rattle.matrices.proofs.write_out.Tie as tie
 use Rattle.matrices.proofs.write_out.Reads as reads
 use Rattle.matrices.proofs.write_out.Lts as lts
-use Rattle.matrices.proofs.copying.copy.Reads as copy-reads
 
 -- what the questions say is answered, and written
 said : (form before : List ℕ) {asked : Asked} → ofLength (length form) (length before) ≡ asked →
@@ -21,37 +22,31 @@ said : (form before : List ℕ) {asked : Asked} → ofLength (length form) (leng
     × (written asked form before ≡ written (ofLength (length form) (length before)) form before)
 said form before e = (sym (ap (λ (q : Asked). lengthOr q (length form)) e), sym (ap (λ (q : Asked). written q form before) e))
 
--- src/lib.rt:60:9
 returns : tie.Need-returns
 returns c =
     let a = c .before .before .before .args in
     said (a .form .now) (a .out .now) (letters-too-many (length (a .form .now)) (length (a .out .now)) (c .if1 .taken))
 
--- src/lib.rt:63:9
 returns-2 : tie.Need-returns-2
 returns-2 c =
     let a = c .before .before .before .before .args in
     said (a .form .now) (a .out .now) (room-too-small (length (a .form .now)) (length (a .out .now)) (c .before .if1 .left) (c .if2 .taken))
 
--- src/lib.rt:65:5
-copy-requires : tie.Need-copy-requires
-copy-requires c κs = search needs
+copy-at-requires : tie.Need-copy-at-requires
+copy-at-requires c κs = search needs
 
--- src/lib.rt:66:29
 cast-t10 : tie.Need-cast-t10
 cast-t10 c = search needs
 
--- src/lib.rt:54:1
 same-length : tie.Need-same-length
 same-length c = search needs
 
--- src/lib.rt:54:1
 returns-3 : tie.Need-returns-3
 returns-3 c =
     let a = c .before .before .before .before .before .before .before .before .args in
     let s = said (a .form .now) (a .out .now) (letters-and-room (length (a .form .now)) (length (a .out .now)) (c .before .before .before .before .before .if1 .left) (c .before .before .before .before .if2 .left)) in
-    (s .0, c .before .before .copy .ensures ∙ s .1)
+    (s .0, pasted-front (c .before .before .copy-at .ensures) (omega arith) ∙ s .1)
 
 pub write-out-spec : {M : Type 1} → statement M
 write-out-spec =
-    tie.close (tie.spec returns returns-2 copy-requires cast-t10 same-length returns-3)
+    tie.close (tie.spec returns returns-2 copy-at-requires cast-t10 same-length returns-3)

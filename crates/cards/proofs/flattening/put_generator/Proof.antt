@@ -5,6 +5,7 @@ use native.Mathlib.Omega.{arith}
 use borrow.Author.Needs.{needs}
 use lib.ListN.{length, take, drop}
 use lib.Seq.{paste}
+use Rattle.words.proofs.Slices.{pasted}
 use Rattle.lists.proofs.FirstOthers.{part-slice}
 use Rattle.cards.proofs.GeneratorSpans.{not-cut, spanned}
 use Rattle.cards.proofs.flattening.put_generator.Statement.{statement}
@@ -27,38 +28,32 @@ sub-len c =
     let s = spanned (a .card .now) (a .at) (entry .pre .0 .2) (read .result) (read .ensures) (c .before .from .given .1) in
     s .rises
 
-sub-copy-to : tie.Need-sub-copy-to
-sub-copy-to c =
+sub-copy-at : tie.Need-sub-copy-at
+sub-copy-at c =
     let entry = c .before .before .before .before .before .before .before in
     let a = entry .args in
     let read = c .before .before .before .letters-after in
     let s = spanned (a .card .now) (a .at) (entry .pre .0 .2) (read .result) (read .ensures) (c .before .from .given .1) in
     s .rises
 
-part-copy-to-start : tie.Need-part-copy-to-start
-part-copy-to-start c =
+part-copy-at-start : tie.Need-part-copy-at-start
+part-copy-at-start c =
     let entry = c .before .before .before .before .before .before .before in
     let a = entry .args in
     let read = c .before .before .before .letters-after in
     let s = spanned (a .card .now) (a .at) (entry .pre .0 .2) (read .result) (read .ensures) (c .before .from .given .1) in
     omega arith
 
-part-copy-to-end : tie.Need-part-copy-to-end
-part-copy-to-end c =
+part-copy-at-end : tie.Need-part-copy-at-end
+part-copy-at-end c =
     let entry = c .before .before .before .before .before .before .before in
     let a = entry .args in
     let read = c .before .before .before .letters-after in
     let s = spanned (a .card .now) (a .at) (entry .pre .0 .2) (read .result) (read .ensures) (c .before .from .given .1) in
     s .within
 
-copy-to-requires : tie.Need-copy-to-requires
-copy-to-requires c κs =
-    let entry = c .before .before .before .before .before .before .before .before .before in
-    let a = entry .args in
-    let read = c .before .before .before .before .before .letters-after in
-    let s = spanned (a .card .now) (a .at) (entry .pre .0 .2) (read .result) (read .ensures) (c .before .before .before .from .given .1) in
-    let (from, end) = c .before .before .before .from .given .0 in
-    omega (arith, entry .pre .0 .3, ap length (part-slice (a .card .now) from (end .0) (s .rises)), ap length (s .letters))
+copy-at-requires : tie.Need-copy-at-requires
+copy-at-requires c κs = search needs
 
 add-ends : tie.Need-add-ends
 add-ends c =
@@ -101,13 +96,18 @@ returns-2 c =
     let entry = c .before .before .before .before .before .before .before .before .before .before .before .before in
     let a = entry .args in
     let read = c .before .before .before .before .before .before .before .before .letters-after in
-    let s = spanned (a .card .now) (a .at) there (read .result) (read .ensures) (c .before .before .before .before .before .before .from .given .1) in
-    let (from, end) = c .before .before .before .before .before .before .from .given .0 in
-    let part : take (end .0 - from) (drop from (a .card .now)) ≡ generator = part-slice (a .card .now) from (end .0) (s .rises) ∙ s .letters in
+    let whole = c .before .before .before .before .before .before .from .given in
+    let s = spanned (a .card .now) (a .at) there (read .result) (read .ensures) (whole .1) in
+    let short = spanned (a .card .now) (a .at) (entry .pre .0 .2) (read .result) (read .ensures) (whole .1) in
+    let (from, end) = whole .0 in
+    let is-slice = part-slice (a .card .now) from (end .0) (s .rises) in
+    let part : take (end .0 - from) (drop from (a .card .now)) ≡ generator = is-slice ∙ s .letters in
     record {
       answer = s .count;
       behind = s .behind;
-      letters = c .before .before .copy-to .ensures ∙ ap₂ (paste (a .letters .now) (a .sum)) part (ap length part ∙ sym (s .count));
+      letters =
+          pasted (c .before .before .copy-at .ensures) (omega (arith, entry .pre .0 .3, ap length is-slice, ap length (short .letters)))
+          ∙ ap₂ (paste (a .letters .now) (a .sum)) part (ap length part ∙ sym (s .count));
       ends = refl;
     }
 
@@ -119,10 +119,10 @@ put-generator-spec =
     enum-told
     enum-known-from
     sub-len
-    sub-copy-to
-    part-copy-to-start
-    part-copy-to-end
-    copy-to-requires
+    sub-copy-at
+    part-copy-at-start
+    part-copy-at-end
+    copy-at-requires
     add-ends
     cast-ends
     mul-ends

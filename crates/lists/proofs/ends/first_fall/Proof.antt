@@ -17,41 +17,33 @@ Inv-loop ends from₀ i₀ from i = (i ≤ length ends) × (firstFall 0 ends ≡
 abbrev μ-loop : tie.MeasureT-loop
 μ-loop ends from₀ i₀ from i = length ends - i
 
--- src/ends.rt:17:5
 loop-holds : tie.Need-loop-holds Inv-loop μ-loop
 loop-holds c = search needs
 
--- src/ends.rt:18:19
 mul-end : tie.Need-mul-end Inv-loop μ-loop
 mul-end c = search needs
 
--- src/ends.rt:18:19
 shared-slice-read-end : tie.Need-shared-slice-read-end Inv-loop μ-loop
 shared-slice-read-end c = search needs
 
--- src/ends.rt:20:13
 returns : tie.Need-returns Inv-loop μ-loop
 returns c =
     let l = c .before .before .before .loop in
     let ends = c .before .before .before .before .args .ends .now in
     omega (arith, l .inv .1, fall-here ends (l .from) (l .i) (omega arith) (c .if1 .taken))
 
--- src/ends.rt:23:9
 add-i : tie.Need-add-i Inv-loop μ-loop
 add-i c = search needs
 
--- src/ends.rt:17:5
 loop-less : tie.Need-loop-less Inv-loop μ-loop
 loop-less c = search needs
 
--- src/ends.rt:17:5
 loop-again : tie.Need-loop-again Inv-loop μ-loop
 loop-again c =
     let l = c .before .before .before .loop in
     let ends = c .before .before .before .before .args .ends .now in
     (omega arith, omega (arith, l .inv .1, fall-later ends (l .from) (l .i) (omega arith) (c .if1 .left)))
 
--- src/ends.rt:12:1
 returns-2 : tie.Need-returns-2 Inv-loop μ-loop
 returns-2 c =
     let l = c .before .loop in

@@ -7,29 +7,22 @@ use Rattle.lists.proofs.ends.last_end.Statement.{statement}
 use Rattle.lists.proofs.ends.last_end.Tie as tie
 use Rattle.lists.proofs.ends.last_end.Reads as reads
 use Rattle.lists.proofs.ends.last_end.Lts as lts
-use Rattle.lists.proofs.ends.wide.Reads as wide-reads
 
--- src/ends.rt:33:9
 returns : tie.Need-returns
 returns c = sym (last-end-none 0 (c .before .before .args .ends .now) (c .if1 .taken))
 
--- src/ends.rt:35:15
 sub-wide : tie.Need-sub-wide
 sub-wide c = search needs
 
--- src/ends.rt:35:10
 mul-wide : tie.Need-mul-wide
 mul-wide c = search needs
 
--- src/ends.rt:35:10
 shared-slice-read-wide : tie.Need-shared-slice-read-wide
 shared-slice-read-wide c = search needs
 
--- src/ends.rt:35:5
 wide-requires : tie.Need-wide-requires
 wide-requires c κs = search needs
 
--- src/ends.rt:29:1
 returns-2 : tie.Need-returns-2
 returns-2 c = c .wide .ensures ∙ sym (last-end 0 (c .before .before .before .before .args .ends .now) (omega arith))
 

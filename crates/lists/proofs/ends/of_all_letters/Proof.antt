@@ -16,11 +16,9 @@ use Rattle.lists.proofs.ends.of_all_letters.Reads as reads
 use Rattle.lists.proofs.ends.of_all_letters.Lts as lts
 use Rattle.words.proofs.questions.first_other.Reads as first-other-reads
 
--- src/ends.rt:63:9
 first-other-requires : tie.Need-first-other-requires
 first-other-requires c κs = search needs
 
--- src/ends.rt:65:9
 returns : tie.Need-returns
 returns c =
     let u = c .before .before .before .before .args .bytes .now in
@@ -29,11 +27,9 @@ returns c =
     let e = first ∙ sym (first-other-front u v (rw first at (c .if1 .taken))) in
     rw e (sym (asks-no _ (NotALetter (firstOther (u ++ v))) (lt-leb (length (u ++ v)) (firstOther (u ++ v)) (omega (arith, e, length-append u v, c .if1 .taken)))))
 
--- src/ends.rt:67:9
 first-other-requires-2 : tie.Need-first-other-requires-2
 first-other-requires-2 c κs = search needs
 
--- src/ends.rt:69:51
 add-t8 : tie.Need-add-t8
 add-t8 c =
     let u = c .before .before .before .before .before .before .args .bytes .now in
@@ -42,7 +38,6 @@ add-t8 c =
     let second = c .before .first-other2 .ensures in
     omega (arith, first, second, first-other-within u, first-other-within v)
 
--- src/ends.rt:69:9
 returns-2 : tie.Need-returns-2
 returns-2 c =
     let u = c .before .before .before .before .before .before .args .bytes .now in
@@ -53,7 +48,6 @@ returns-2 c =
     let e : c .before .before .before .first-other .result + c .before .first-other2 .result ≡ firstOther (u ++ v) = omega (arith, first, second, first-other-within u, first-other-behind u v all) in
     rw e (sym (asks-no _ (NotALetter (firstOther (u ++ v))) (lt-leb (length (u ++ v)) (firstOther (u ++ v)) (omega (arith, second, first-other-behind u v all, length-append u v, c .if2 .taken)))))
 
--- src/ends.rt:59:1
 returns-3 : tie.Need-returns-3
 returns-3 c =
     let u = c .before .before .before .before .before .before .args .bytes .now in

@@ -10,11 +10,9 @@ use Rattle.lists.proofs.ends.of_ends.Lts as lts
 use Rattle.lists.proofs.ends.first_fall.Reads as first-fall-reads
 use Rattle.lists.proofs.ends.last_end.Reads as last-end-reads
 
--- src/ends.rt:48:9
 first-fall-requires : tie.Need-first-fall-requires
 first-fall-requires c κs = search needs
 
--- src/ends.rt:50:9
 returns : tie.Need-returns
 returns c =
     let ends = c .before .before .before .args .ends .now in
@@ -22,11 +20,9 @@ returns c =
     let fall = c .before .first-fall .ensures in
     rw fall (sym (an-end-falls ends letters (rw fall at (c .if1 .taken))))
 
--- src/ends.rt:52:8
 last-end-requires : tie.Need-last-end-requires
 last-end-requires c κs = search needs
 
--- src/ends.rt:53:9
 returns-2 : tie.Need-returns-2
 returns-2 c =
     let ends = c .before .before .before .before .before .args .ends .now in
@@ -34,7 +30,6 @@ returns-2 c =
     let fall = c .before .before .before .first-fall .ensures in
     sym (ends-right ends letters (rw fall at (c .before .before .if1 .left)) (sym (c .before .last-end .ensures) ∙ c .if2 .taken))
 
--- src/ends.rt:45:1
 returns-3 : tie.Need-returns-3
 returns-3 c =
     let ends = c .before .before .before .before .before .args .ends .now in

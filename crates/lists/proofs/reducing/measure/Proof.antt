@@ -18,7 +18,6 @@ use Rattle.lists.proofs.reducing.measure.Tie as tie
 use Rattle.lists.proofs.reducing.measure.Reads as reads
 use Rattle.lists.proofs.reducing.measure.Lts as lts
 use Rattle.lists.proofs.reducing.normal_form.Reads as normal-form-reads
-use Rattle.lists.proofs.reducing.wide.Reads as wide-reads
 
 abbrev Inv-loop : tie.InvT-loop
 Inv-loop bytes ends form₀ sum₀ from₀ i₀ form sum from i =
@@ -27,29 +26,23 @@ Inv-loop bytes ends form₀ sum₀ from₀ i₀ form sum from i =
 abbrev μ-loop : tie.MeasureT-loop
 μ-loop bytes ends form₀ sum₀ from₀ i₀ form sum from i = length ends - i
 
--- src/reducing.rt:45:5
 loop-holds : tie.Need-loop-holds Inv-loop μ-loop
 loop-holds c =
     let a = c .before .before .args in
     (omega arith, behind-begins (a .bytes .now) (a .ends .now) (c .before .before .pre), omega arith, omega arith, refl, omega arith)
 
--- src/reducing.rt:46:24
 mul-wide : tie.Need-mul-wide Inv-loop μ-loop
 mul-wide c = search needs
 
--- src/reducing.rt:46:24
 shared-slice-read-wide : tie.Need-shared-slice-read-wide Inv-loop μ-loop
 shared-slice-read-wide c = search needs
 
--- src/reducing.rt:46:13
 wide-requires : tie.Need-wide-requires Inv-loop μ-loop
 wide-requires c κs = search needs
 
--- src/reducing.rt:47:49
 slice-aggregate-normal-form : tie.Need-slice-aggregate-normal-form Inv-loop μ-loop
 slice-aggregate-normal-form c = sym (c .before .before .before .before .loop .inv .4)
 
--- src/reducing.rt:47:13
 normal-form-requires : tie.Need-normal-form-requires Inv-loop μ-loop
 normal-form-requires c κs =
     let l = c .before .before .before .before .loop in
@@ -66,7 +59,6 @@ normal-form-requires c κs =
       ),
     )
 
--- src/reducing.rt:49:13
 returns : tie.Need-returns Inv-loop μ-loop
 returns c =
     let l = c .before .before .before .before .before .before .before .loop in
@@ -80,11 +72,9 @@ returns c =
     let g = word (slice (l .from) (getD ends (l .i) 0) bytes) in
     (omega (arith, l .inv .2, more, long-form (l .sum) g gens (omega (arith, len, c .if1 .taken))), (l .inv .3, λ all. absurd (omega arith)))
 
--- src/reducing.rt:51:18
 add-if2 : tie.Need-add-if2 Inv-loop μ-loop
 add-if2 c = search needs
 
--- src/reducing.rt:52:13
 returns-2 : tie.Need-returns-2 Inv-loop μ-loop
 returns-2 c =
     let l = c .before .before .before .before .before .before .before .before .loop in
@@ -98,19 +88,15 @@ returns-2 c =
     let g = word (slice (l .from) (getD ends (l .i) 0) bytes) in
     (omega (arith, l .inv .2, more, long-sum (l .sum) g gens (omega (arith, len, c .before .if1 .left)) (omega (arith, len, c .if2 .taken))), (l .inv .3, λ all. absurd (omega arith)))
 
--- src/reducing.rt:54:15
 add-sum : tie.Need-add-sum Inv-loop μ-loop
 add-sum c = search needs
 
--- src/reducing.rt:56:9
 add-i : tie.Need-add-i Inv-loop μ-loop
 add-i c = search needs
 
--- src/reducing.rt:45:5
 loop-less : tie.Need-loop-less Inv-loop μ-loop
 loop-less c = search needs
 
--- src/reducing.rt:45:5
 loop-again : tie.Need-loop-again Inv-loop μ-loop
 loop-again c =
     let l = c .before .before .before .before .before .before .before .before .loop in
@@ -138,7 +124,6 @@ loop-again c =
       omega (arith, l .inv .5, sums, len),
     )
 
--- src/reducing.rt:37:1
 returns-3 : tie.Need-returns-3 Inv-loop μ-loop
 returns-3 c =
     let l = c .before .loop in

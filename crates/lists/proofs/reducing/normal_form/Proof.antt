@@ -15,7 +15,6 @@ use Rattle.lists.proofs.reducing.normal_form.Statement.{statement}
 use Rattle.lists.proofs.reducing.normal_form.Tie as tie
 use Rattle.lists.proofs.reducing.normal_form.Reads as reads
 use Rattle.lists.proofs.reducing.normal_form.Lts as lts
-use Rattle.lists.proofs.reducing.wide.Reads as wide-reads
 use Rattle.words.proofs.reduce.Reads as reduce-reads
 
 -- the length that an answer holds
@@ -24,39 +23,30 @@ length-of {n} {m} {l} e f =
     let same : l ≡ record { 0 = m } = cc in
     e ∙ ap (λ (k : Letters). k .0) same
 
--- src/reducing.rt:30:25
 sub-reduce : tie.Need-sub-reduce
 sub-reduce c = search needs
 
--- src/reducing.rt:30:25
 part-reduce-start : tie.Need-part-reduce-start
 part-reduce-start c = search needs
 
--- src/reducing.rt:30:25
 part-reduce-end : tie.Need-part-reduce-end
 part-reduce-end c = search needs
 
--- src/reducing.rt:30:11
 reduce-requires : tie.Need-reduce-requires
 reduce-requires c κs = search needs
 
--- src/reducing.rt:31:25
 enum-known-letters : tie.Need-enum-known-letters
 enum-known-letters c = search needs
 
--- src/reducing.rt:31:37
 wide-requires : tie.Need-wide-requires
 wide-requires c κs = search needs
 
--- src/reducing.rt:32:32
 enum-told : tie.Need-enum-told
 enum-told c = search needs
 
--- src/reducing.rt:21:1
 same-length : tie.Need-same-length
 same-length c = search needs
 
--- src/reducing.rt:21:1
 returns : tie.Need-returns
 returns c =
     let a = c .before .before .before .before .before .before .before .before .before .before .before .args in
@@ -66,11 +56,9 @@ returns c =
     let len : c .wide .result ≡ length (nf (wordOf (slice (a .from) (a .end) (a .bytes .now)))) = length-of (c .wide .ensures) (sym (c .before .before .letters .given .1) ∙ form-length (a .bytes .now) (a .from) (a .end) (a .form .now) (m .result) (m .last .1 .0) _ is-slice (p .1 .1 .0) (p .1 .0) (p .1 .1 .1 .0) (p .1 .1 .1 .1) (m .ensures)) in
     (len, ap (λ (k : ℕ). take k (m .last .1 .0)) len ∙ form-written (a .bytes .now) (a .from) (a .end) (a .form .now) (m .result) (m .last .1 .0) _ is-slice (p .1 .1 .0) (p .1 .0) (p .1 .1 .1 .0) (p .1 .1 .1 .1) (m .ensures))
 
--- src/reducing.rt:21:1
 same-length-2 : tie.Need-same-length-2
 same-length-2 c = search needs
 
--- src/reducing.rt:21:1
 returns-2 : tie.Need-returns-2
 returns-2 c =
     let a = c .before .before .before .before .before .before .before .before .before .args in

@@ -18,7 +18,6 @@ use Rattle.lists.proofs.reducing.write_forms.Reads as reads
 use Rattle.lists.proofs.reducing.write_forms.Lts as lts
 use Rattle.lists.proofs.reducing.normal_form.Reads as normal-form-reads
 use Rattle.lists.proofs.reducing.put_form.Reads as put-form-reads
-use Rattle.lists.proofs.reducing.wide.Reads as wide-reads
 
 abbrev Inv-loop : tie.InvT-loop
 Inv-loop bytes ends out₀ out-ends₀ form₀ sum₀ from₀ i₀ out out-ends form sum from i =
@@ -28,7 +27,6 @@ Inv-loop bytes ends out₀ out-ends₀ form₀ sum₀ from₀ i₀ out out-ends 
 abbrev μ-loop : tie.MeasureT-loop
 μ-loop bytes ends out₀ out-ends₀ form₀ sum₀ from₀ i₀ out out-ends form sum from i = length ends - i
 
--- src/reducing.rt:107:5
 loop-holds : tie.Need-loop-holds Inv-loop μ-loop
 loop-holds c =
     let a = c .before .before .before .before .args in (
@@ -40,23 +38,18 @@ loop-holds c =
       forming-begins (generators (a .bytes .now) (a .ends .now)) (a .out .now) (a .out-ends .now),
     )
 
--- src/reducing.rt:108:24
 mul-wide : tie.Need-mul-wide Inv-loop μ-loop
 mul-wide c = search needs
 
--- src/reducing.rt:108:24
 shared-slice-read-wide : tie.Need-shared-slice-read-wide Inv-loop μ-loop
 shared-slice-read-wide c = search needs
 
--- src/reducing.rt:108:13
 wide-requires : tie.Need-wide-requires Inv-loop μ-loop
 wide-requires c κs = search needs
 
--- src/reducing.rt:109:49
 slice-aggregate-normal-form : tie.Need-slice-aggregate-normal-form Inv-loop μ-loop
 slice-aggregate-normal-form c = sym (c .before .before .before .before .loop .inv .2)
 
--- src/reducing.rt:109:13
 normal-form-requires : tie.Need-normal-form-requires Inv-loop μ-loop
 normal-form-requires c κs =
     let l = c .before .before .before .before .loop in
@@ -74,11 +67,9 @@ normal-form-requires c κs =
       ),
     )
 
--- src/reducing.rt:110:18
 slice-aggregate-put-form : tie.Need-slice-aggregate-put-form Inv-loop μ-loop
 slice-aggregate-put-form c = sym (c .before .before .normal-form .kept .1 .1 .1 .0 ∙ c .before .before .before .before .before .before .before .loop .inv .2)
 
--- src/reducing.rt:110:9
 put-form-requires : tie.Need-put-form-requires Inv-loop μ-loop
 put-form-requires c κs =
     let l = c .before .before .before .before .before .before .before .before .before .loop in
@@ -99,7 +90,6 @@ put-form-requires c κs =
     let short : length (nf g) ≤ 4096 = omega (arith, room, p .1 .0) in
     (omega (arith, form, len, short), (omega (arith, room, len, p .1 .1 .0, l .inv .3), (omega (arith, room, len, p .1 .0), omega (arith, l .inv .4, p .1 .1 .1))))
 
--- src/reducing.rt:111:15
 add-sum : tie.Need-add-sum Inv-loop μ-loop
 add-sum c =
     let l = c .before .before .before .before .before .before .before .before .before .before .before .before .before .before .loop in
@@ -117,15 +107,12 @@ add-sum c =
     let p = c .before .before .before .before .before .before .before .before .before .before .before .before .before .before .before .before .before .before .before .pre in
     omega (arith, len, p .1 .0, forming-room gens (a .out .now) (a .out-ends .now) (generatorsFrom bytes (l .from) (drop (l .i) ends)) (l .sum) (l .i) (l .out) (l .out-ends) (l .inv .5) g rest next)
 
--- src/reducing.rt:113:9
 add-i : tie.Need-add-i Inv-loop μ-loop
 add-i c = search needs
 
--- src/reducing.rt:107:5
 loop-less : tie.Need-loop-less Inv-loop μ-loop
 loop-less c = search needs
 
--- src/reducing.rt:107:5
 loop-again : tie.Need-loop-again Inv-loop μ-loop
 loop-again c =
     let l = c .before .before .before .before .before .before .before .before .before .before .before .before .before .before .loop in
@@ -154,15 +141,12 @@ loop-again c =
       subst (λ (k : ℕ). Forming gens (a .out .now) (a .out-ends .now) (generatorsFrom bytes k (drop (l .i + 1) ends)) (l .sum + n .result) (l .i + 1) (w .last .1 .1 .0) (w .last .1 .1 .1 .1 .0)) (sym e) formed,
     )
 
--- src/reducing.rt:95:1
 same-length : tie.Need-same-length Inv-loop μ-loop
 same-length c = c .before .loop .inv .3
 
--- src/reducing.rt:95:1
 same-length-2 : tie.Need-same-length-2 Inv-loop μ-loop
 same-length-2 c = c .before .loop .inv .4
 
--- src/reducing.rt:95:1
 returns : tie.Need-returns Inv-loop μ-loop
 returns c =
     let l = c .before .loop in

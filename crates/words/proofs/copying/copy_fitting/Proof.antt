@@ -7,10 +7,8 @@ use lib.ListN.{length, set, getD, length-set}
 use lib.Seq.{paste, paste-zero, paste-suc}
 use borrow.Author.Needs.{needs}
 use native.Mathlib.Omega.{arith}
-use Rattle.lists.proofs.reducing.copy_at.Statement.{statement}
-use Rattle.lists.proofs.reducing.copy_at.Tie as tie
-use Rattle.lists.proofs.reducing.copy_at.Reads as reads
-use Rattle.lists.proofs.reducing.copy_at.Lts as lts
+use Rattle.words.proofs.copying.copy_fitting.Statement.{statement}
+use Rattle.words.proofs.copying.copy_fitting.Tie as tie
 
 abbrev Inv-loop : tie.InvT-loop
 Inv-loop from to₀ at i₀ to i = (i ≤ length from) × (to ≡ paste to₀ at from i) × (length to ≡ length to₀)
@@ -18,31 +16,24 @@ Inv-loop from to₀ at i₀ to i = (i ≤ length from) × (to ≡ paste to₀ at
 abbrev μ-loop : tie.MeasureT-loop
 μ-loop from to₀ at i₀ to i = length from - i
 
--- src/reducing.rt:67:5
 loop-holds : tie.Need-loop-holds Inv-loop μ-loop
 loop-holds c = let a = c .args in (omega arith, paste-zero (a .to .now) (a .at) (a .from .now), refl)
 
--- src/reducing.rt:68:22
 shared-slice-read-to : tie.Need-shared-slice-read-to Inv-loop μ-loop
 shared-slice-read-to c = search needs
 
--- src/reducing.rt:68:12
 add-to : tie.Need-add-to Inv-loop μ-loop
 add-to c = search needs
 
--- src/reducing.rt:68:9
 slice-write-to : tie.Need-slice-write-to Inv-loop μ-loop
 slice-write-to c = search needs
 
--- src/reducing.rt:69:9
 add-i : tie.Need-add-i Inv-loop μ-loop
 add-i c = search needs
 
--- src/reducing.rt:67:5
 loop-less : tie.Need-loop-less Inv-loop μ-loop
 loop-less c = search needs
 
--- src/reducing.rt:67:5
 loop-again : tie.Need-loop-again Inv-loop μ-loop
 loop-again c =
     let l = c .before .before .loop in
@@ -52,11 +43,9 @@ loop-again c =
       length-set (l .to) (a .at + l .i) (getD (a .from .now) (l .i) 0) ∙ l .inv .2,
     )
 
--- src/reducing.rt:62:1
 same-length : tie.Need-same-length Inv-loop μ-loop
 same-length c = search needs
 
--- src/reducing.rt:62:1
 returns : tie.Need-returns Inv-loop μ-loop
 returns c =
     let l = c .before .loop in
@@ -64,8 +53,8 @@ returns c =
     let all : l .i ≡ length (a .from .now) = omega arith in
     l .inv .1 ∙ ap (paste (a .to .now) (a .at) (a .from .now)) all
 
-pub copy-at-spec : {M : Type 1} → statement M
-copy-at-spec =
+pub copy-fitting-spec : {M : Type 1} → statement M
+copy-fitting-spec =
     tie.close
     (tie.spec
     Inv-loop
