@@ -6,14 +6,14 @@
 --     normal-form-unique, normal-form-of-word    a matrix has one normal form, and a word's matrix has the word's
 -- Assumes nothing.
 use mathlib.Core.Path.{_≡_, refl, sym, ap, _∙_}
-use mathlib.Core.Logic.{inl, inr, _↔_}
+use mathlib.Core.Logic.{inl, _↔_}
 use mathlib.Core.List.{[], _++_}
 use Rattle.words.specs.Word.{Word, Equal, rr, sss, none, back, then, RR, SSS, nf, inverse}
 use Rattle.words.proofs.Reduced.{Reduced}
 use Rattle.words.proofs.NormalForm.{nf-reduced, nf-normal, nf-of-normal, nf-of-equal, equal-nf, equal-of-nf, equal-path}
 use Rattle.words.proofs.Inverse.{word-inverse, inverse-word, inverse-unique}
 use Rattle.unimodular.specs.Matrix.{Matrix, unit, times, UpToSign, matrixOf, NormalFormOf}
-use Rattle.unimodular.proofs.Product.{unit-times, sign-refl, sign-sym, sign-trans, sign-times, matrixOf-append}
+use Rattle.unimodular.proofs.Product.{unit-times, sign-refl, sign-negated, sign-sym, sign-trans, sign-times, matrixOf-append}
 use Rattle.unimodular.proofs.Ending.{ending-is-nothing, ending-sign}
 use Rattle.unimodular.proofs.LastPart.{nothing-of-ending}
 
@@ -25,8 +25,8 @@ insert-unit x n y s =
     (inl (ap (times (matrixOf x)) (unit-times (matrixOf y)) ∙ sym (matrixOf-append x y))))
 
 pub matrix-of-equal : {u v : Word} → Equal u v → UpToSign (matrixOf u) (matrixOf v)
-matrix-of-equal (rr x y) = insert-unit x RR y (inr refl)
-matrix-of-equal (sss x y) = insert-unit x SSS y (inr refl)
+matrix-of-equal (rr x y) = insert-unit x RR y (sign-negated unit)
+matrix-of-equal (sss x y) = insert-unit x SSS y (sign-negated unit)
 matrix-of-equal none = inl refl
 matrix-of-equal (back e) = sign-sym (matrix-of-equal e)
 matrix-of-equal (then e f) = sign-trans (matrix-of-equal e) (matrix-of-equal f)

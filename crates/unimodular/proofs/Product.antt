@@ -85,6 +85,9 @@ negated-negated m = entries (negℤ-negℤ (m .a)) (negℤ-negℤ (m .b)) (neg�
 pub sign-refl : (m : Matrix) → UpToSign m m
 sign-refl m = inl refl
 
+pub sign-negated : (m : Matrix) → UpToSign (negated m) m
+sign-negated m = inr refl
+
 pub sign-sym : {m n : Matrix} → UpToSign m n → UpToSign n m
 sign-sym (inl e) = inl (sym e)
 sign-sym {m} {n} (inr e) = inr (sym (ap negated e ∙ negated-negated n))

@@ -7,7 +7,6 @@ use native.Mathlib.Nat.{zero-add}
 use native.Mathlib.Numerals.{add-one}
 use native.Mathlib.Omega.{arith}
 use borrow.Author.Tests.{le-leb, lt-leb}
-use lib.Dec.{leb}
 use lib.ListN.{length, take, drop, set, getD, length-append}
 use lib.Seq.{paste, slice, take-at, take-all, take-length, drop-at, drop-append-add, drop-drop, drop-cons, set-at, append-snoc}
 use Rattle.words.specs.Bytes.{pick}
@@ -26,9 +25,9 @@ module _ (new before : List ℕ) (at : ℕ) where
   pub pastes-nothing : length before < at + length new → Pastes new at before false before
   pastes-nothing h = let test = sym (lt-leb (at + length new) (length before) h) in record { answer = test; slice = ap held test }
 
-module _ {new before after : List ℕ} {at : ℕ} {r : Bool} (h : Pastes new at before r after) where
-  pub pasted : at + length new ≤ length before → after ≡ paste before at new (length new)
-  pasted room = h .slice ∙ ap (held new before at) (le-leb (at + length new) (length before) room)
+pub pasted : {new before after : List ℕ} {at : ℕ} {r : Bool} → Pastes new at before r after → at + length new ≤ length before
+    → after ≡ paste before at new (length new)
+pasted {new} {before} {at = at} h room = h .slice ∙ ap (held new before at) (le-leb (at + length new) (length before) room)
 
 pub pasted-front : {new before after : List ℕ} {r : Bool} → Pastes new 0 before r after → length new ≤ length before → after ≡ overwritten new before
 pasted-front {new} {before} h room =
