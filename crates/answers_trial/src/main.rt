@@ -5,6 +5,12 @@ use answers::Lined;
 use answers::Printed;
 use words::Factors;
 use words::Refusal;
+ghost use mathlib.Core.Path.{_≡_};
+ghost use lib.Dec.{leb};
+ghost use lib.ListN.{length};
+ghost use Rattle.words.specs.Bytes.{pick};
+ghost use Rattle.words.specs.Slices.{overwritten};
+ghost use Rattle.answers.specs.Line.{line};
 
 // Prints the answer's line, or else why it is not printed.
 fn show(answer: Answer, witness: &[u8]) {
@@ -92,7 +98,9 @@ fn print_lined(lined: Lined) {
 }
 
 // Says how long the slice is and what `write_line` answers; then the whole slice as it is left, up to a bar.
-fn write(answer: Answer, witness: &[u8], out: &mut [u8]) {
+fn write(answer: Answer, witness: &[u8], out: &mut [u8])
+    ensures { λ _. ⌜ now (out .exit) ≡ pick (leb (length (line answer (now (witness .entry)))) (length (now (out .entry)))) (overwritten (line answer (now (witness .entry))) (now (out .entry))) (now (out .entry)) ⌝ }
+{
     let lined = answers::write_line(answer, witness, out);
     io::print_decimal(1, out.len() as u64);
     io::write_all(1, b" bytes: ");

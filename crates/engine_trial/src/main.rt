@@ -3,7 +3,9 @@
 // 255, the first bytes and how many are still full. What it must print stands in `stdout`.
 mod printing;
 
+use engine::Verdict;
 use words::Factors;
+ghost use Rattle.engine.specs.Calls.{Judges};
 
 // Enough for q up to 20, and for the largest q of all: 320 letters, a target of 80.
 const TABLE: usize = 400;
@@ -37,12 +39,18 @@ fn judge(
     first: &mut [u16],
     second: &mut [u16],
     witness: &mut [u8],
-) {
+) -> Verdict
+    ensures { λ r. ⌜ Judges (now (bytes .entry)) (now (ends .entry)) (now (target .entry)) n r
+        (record { first = now (first .entry); second = now (second .entry); witness = now (witness .entry) })
+        (record { first = now (first .exit); second = now (second .exit); witness = now (witness .exit) }) ⌝ }
+{
     printing::call(bytes, ends, target, n);
-    printing::verdict(engine::judge(bytes, ends, target, Factors(n), first, second, witness));
+    let verdict = engine::judge(bytes, ends, target, Factors(n), first, second, witness);
+    printing::verdict(verdict);
     printing::table(first);
     printing::table(second);
     printing::witness(witness);
+    verdict
 }
 
 fn small(bytes: &[u8], ends: &[u16], target: &[u8], n: u16) {

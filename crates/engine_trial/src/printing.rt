@@ -1,6 +1,7 @@
 // What the trial prints with: the call, its verdict, and what the lent slices hold afterwards.
 use engine::Verdict;
 use words::Refusal;
+ghost use mathlib.Core.Path.{_≡_};
 ghost use Prim.Native.Nat.{_+_, _^_, _≤_, _<_};
 
 // A word of at most twelve bytes, or its first four bytes and how many there are.
@@ -102,7 +103,9 @@ pub(crate) fn table(entries: &[u16]) {
     io::write_all(1, b" full");
 }
 
-fn wide(x: u8) -> u16 {
+fn wide(x: u8) -> u16
+    ensures { λ r. ⌜ r ≡ x ⌝ }
+{
     x as u16
 }
 

@@ -5,6 +5,8 @@ mod printing;
 use matrices::Matrix;
 use matrices::Turned;
 use words::Written;
+ghost use Rattle.matrices.specs.Entries.{matrix};
+ghost use Rattle.matrices.specs.Calls.{TurnsMatrix};
 
 fn word(letters: &[u8]) {
     io::write_all(1, letters);
@@ -20,18 +22,26 @@ fn answer(letters: &[u8]) {
     io::write_all(1, b"\n");
 }
 
-fn into(m: Matrix, out: &mut [u8]) {
-    printing::matrix(m);
-    io::write_all(1, b": ");
-    match matrices::matrix_to_word(m, out) {
+fn written(answer: Written) {
+    match answer {
         Written::Length(letters) => {
             io::print_decimal(1, letters.0 as u64);
         }
         Written::Refused(refusal) => printing::refused(refusal),
     }
+}
+
+fn into(m: Matrix, out: &mut [u8]) -> Written
+    ensures { λ r. ⌜ TurnsMatrix (matrix m) (now (out .entry)) r (now (out .exit)) ⌝ }
+{
+    let answer = matrices::matrix_to_word(m, out);
+    printing::matrix(m);
+    io::write_all(1, b": ");
+    written(answer);
     io::write_all(1, b" ");
     io::write_all(1, out);
     io::write_all(1, b"\n");
+    answer
 }
 
 fn matrix(a: i64, b: i64, c: i64, d: i64) {

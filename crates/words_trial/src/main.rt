@@ -3,6 +3,13 @@
 use words::Refusal;
 use words::Tested;
 use words::Written;
+ghost use mathlib.Core.Path.{_≡_};
+ghost use Prim.Native.Nat.{_*_};
+ghost use lib.ListN.{length};
+ghost use Rattle.words.specs.Word.{nf, inverse};
+ghost use Rattle.words.specs.Bytes.{word as wordOf, bytes};
+ghost use Rattle.words.specs.Questions.{ofWord};
+ghost use Rattle.words.specs.Slices.{written};
 
 fn print_refusal(refusal: Refusal) {
     io::write_all(1, b"refused ");
@@ -43,12 +50,16 @@ fn print_line(call: &[u8], word: &[u8], answer: Written, out: &[u8]) {
     io::write_all(1, b"'\n");
 }
 
-fn reduce(word: &[u8], out: &mut [u8]) {
+fn reduce(word: &[u8], out: &mut [u8])
+    ensures { λ _. ⌜ now (out .exit) ≡ written (ofWord (now (word .entry)) (1 * length (now (word .entry))) (length (now (out .entry)))) (bytes (nf (wordOf (now (word .entry))))) (now (out .entry)) ⌝ }
+{
     let answer = words::reduce(word, out);
     print_line(b"reduce", word, answer, out);
 }
 
-fn invert(word: &[u8], out: &mut [u8]) {
+fn invert(word: &[u8], out: &mut [u8])
+    ensures { λ _. ⌜ now (out .exit) ≡ written (ofWord (now (word .entry)) (2 * length (now (word .entry))) (length (now (out .entry)))) (bytes (nf (inverse (wordOf (now (word .entry)))))) (now (out .entry)) ⌝ }
+{
     let answer = words::invert(word, out);
     print_line(b"invert", word, answer, out);
 }
