@@ -1,5 +1,9 @@
 //! Measures the proved verdict against the same method in plain Rust, in one process: both get the same calls in turn, and must give the same verdict and
-//! count. Prints tables in Markdown, and writes a plot to the file that the first argument names: both of these and a walk of the group.
+//! count.
+//!
+//!     kernelhop_benchmark ratios            the ratios on the largest calls, one on a line
+//!     kernelhop_benchmark PLOT FILE..       all tables in Markdown, and the plot: both of these and a walk of the group. Each file holds what `ratios` printed
+//!                                           where the functions were moved
 
 mod plot;
 mod reference;
@@ -260,24 +264,57 @@ const SHAPES: [(usize, usize); 4] = [(64, 5), (32, 10), (16, 20), (4, 80)];
 
 const SEEDS: [u64; 3] = [1001, 2002, 3003];
 
-fn against_plain_rust(lent: &mut Lent) {
-    println!("| generators | list | verdict | proved, ms | plain Rust, ms | ratio |");
-    println!("|---|---|---|---|---|---|");
-    for (generators, letters) in SHAPES {
-        for seed in SEEDS {
-            let call = large_call(seed, generators, letters, 1000);
-            let verdict = match compare(&call, lent) {
-                Verdict::Member(count) => format!("member {count}"),
-                Verdict::None => "none".to_string(),
-                refused => panic!("{refused:?}"),
-            };
-            let Measured {
-                proved,
-                plain,
-                ratio,
-            } = measure(&call, lent);
-            println!("| {generators} of {letters} | {seed} | {verdict} | {proved:.3} | {plain:.3} | {ratio:.2} |");
-        }
+/// The largest calls, with their names in a table.
+fn largest_calls() -> Vec<(String, Call)> {
+    SHAPES
+        .into_iter()
+        .flat_map(|(generators, letters)| {
+            SEEDS.map(|seed| {
+                let name = format!("{generators} of {letters} | {seed}");
+                (name, large_call(seed, generators, letters, 1000))
+            })
+        })
+        .collect()
+}
+
+fn print_ratios(lent: &mut Lent) {
+    for (_, call) in largest_calls() {
+        println!("{:.4}", measure(&call, lent).ratio);
+    }
+}
+
+/// What `print_ratios` printed, of a program whose functions are moved.
+fn read_ratios(file: &str) -> Vec<f64> {
+    let text = std::fs::read_to_string(file).expect("a file of ratios");
+    text.lines()
+        .map(|line| line.parse().expect("a ratio"))
+        .collect()
+}
+
+/// `moved` are the ratios where the functions are moved, of each program in turn.
+fn against_plain_rust(lent: &mut Lent, moved: &[Vec<f64>]) {
+    println!("| generators | list | verdict | proved, ms | plain Rust, ms | ratios | mean |");
+    println!("|---|---|---|---|---|---|---|");
+    for (i, (name, call)) in largest_calls().iter().enumerate() {
+        let verdict = match compare(call, lent) {
+            Verdict::Member(count) => format!("member {count}"),
+            Verdict::None => "none".to_string(),
+            refused => panic!("{refused:?}"),
+        };
+        let Measured {
+            proved,
+            plain,
+            ratio,
+        } = measure(call, lent);
+        let ratios: Vec<f64> = std::iter::once(ratio)
+            .chain(moved.iter().map(|ratios| ratios[i]))
+            .collect();
+        let mean = ratios.iter().sum::<f64>() / ratios.len() as f64;
+        let ratios: Vec<_> = ratios.iter().map(|ratio| format!("{ratio:.2}")).collect();
+        println!(
+            "| {name} | {verdict} | {proved:.3} | {plain:.3} | {} | {mean:.2} |",
+            ratios.join(" ")
+        );
     }
     println!();
 }
@@ -358,13 +395,17 @@ fn over_m(lent: &mut Lent) -> Vec<plot::Line> {
 }
 
 fn main() {
-    let plot = std::env::args()
-        .nth(1)
-        .expect("the first argument: the file of the plot");
-    compare_small(20_000);
+    let words: Vec<String> = std::env::args().skip(1).collect();
+    let (plot, files) = words.split_first().expect("ratios, or the plot's file");
+    reference::shift();
     let mut lent = Lent::new(481 * 481, 1000);
+    if plot == "ratios" {
+        return print_ratios(&mut lent);
+    }
+    let moved: Vec<_> = files.iter().map(|file| read_ratios(file)).collect();
+    compare_small(20_000);
     println!("## m 320, t 80, n 1000\n");
-    against_plain_rust(&mut lent);
+    against_plain_rust(&mut lent, &moved);
     println!("## Milliseconds of the proved verdict as m grows: t 80, n 1000\n");
     growth(
         "m",
@@ -383,5 +424,5 @@ fn main() {
     let lines = over_m(&mut lent);
     print_lines(&lines);
     let title = format!("A verdict on generators of 10 letters, t 80, n {WALK}");
-    std::fs::write(&plot, plot::svg(&title, &lines)).expect("the plot is written");
+    std::fs::write(plot, plot::svg(&title, &lines)).expect("the plot is written");
 }

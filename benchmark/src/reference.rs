@@ -2,6 +2,29 @@
 //! pairs filled by levels, the target's rows, the witness walked along tight rules, and the zeroing. It proves nothing; it is what the
 //! benchmark measures against.
 
+// Where a loop stands in the lines of the processor's cache moves its time by some percent. So the program is linked four times, with all functions from here on, the
+// proved ones too, moved by so many bytes.
+core::arch::global_asm!(
+    ".section .text.kernelhop_shift, \"ax\"",
+    ".globl kernelhop_shift",
+    "kernelhop_shift:",
+    "ret",
+    concat!(
+        ".skip ",
+        env!("KERNELHOP_SHIFT", "benchmark/run says by how many bytes")
+    ),
+    ".text"
+);
+
+extern "C" {
+    fn kernelhop_shift();
+}
+
+/// Does nothing; a function that nobody calls is not linked.
+pub fn shift() {
+    unsafe { kernelhop_shift() }
+}
+
 const R: u8 = b'R';
 const S: u8 = b'S';
 

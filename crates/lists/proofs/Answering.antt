@@ -13,8 +13,7 @@ use Rattle.words.specs.Calls.{lengthOr}
 use Rattle.words.specs.declared.Refusal.{Refusal}
 use Rattle.words.specs.declared.Refusal.the-variants.{GeneratorTooLong, OutputTooShort}
 use Rattle.words.specs.declared.Asked.{Asked}
-use Rattle.words.specs.declared.Asked.the-variants.{Passed, Refused}
-use Rattle.words.specs.declared.Written.{Written}
+use Rattle.words.specs.declared.Asked.the-variants.{Refused}
 use Rattle.words.specs.declared.Written.the-variants.{Length, Refused as Written·Refused}
 use Rattle.words.proofs.Asking.{yes-first, no-first, passed-first, refused-first}
 use Rattle.products.specs.Product.{generators}

@@ -1,78 +1,84 @@
 -- Normal forms that are written one behind the other, each with its end. Assumes nothing.
-use mathlib.Core.Path.{_≡_, refl, sym, ap, _∙_}
+use mathlib.Core.Path.{_≡_, refl, sym, ap, ap₂, _∙_}
 use mathlib.Core.List.{List, [], _∷_, _++_, append-assoc, append-nil}
 use Prim.Native.Nat.{ℕ, _+_, _≤_, _<_}
+use native.Mathlib.Numerals.{add-one}
 use native.Mathlib.Omega.{arith}
-use lib.ListN.{length, set, length-append}
-use lib.Seq.{paste}
+use lib.ListN.{length, take, drop, getD, set}
+use lib.Seq.{paste, length-take-le, take-all, take-at, take-suc, take-paste, drop-cons}
 use Rattle.words.specs.Word.{Word, nf}
 use Rattle.words.specs.Bytes.{bytes}
 use Rattle.words.specs.Slices.{overwritten}
+use Rattle.words.proofs.Answering.{take-overwritten}
 use Rattle.words.proofs.Bytes.{length-bytes}
-use Rattle.words.proofs.Slices.{front-pasted, front-stored}
+use Rattle.words.proofs.Slices.{front-stored}
 use Rattle.lists.specs.NormalList.{total, normalBytes, normalEnds}
+use Rattle.lists.proofs.NormalList.{normal-ends-length}
 
--- the normal forms of the first generators are written, those of `rest` are still to come
-pub record Forming (gens : List Word) (old oldEnds : List ℕ) (rest : List Word) (sum i : ℕ) (out outEnds : List ℕ) : Type 0 where
-  pub done : List ℕ
-  pub ends : List ℕ
-  pub out-is : out ≡ overwritten done old
-  pub ends-is : outEnds ≡ overwritten ends oldEnds
-  pub done-length : length done ≡ sum
-  pub ends-length : length ends ≡ i
-  pub more : done ++ normalBytes rest ≡ normalBytes gens
-  pub more-ends : ends ++ normalEnds sum rest ≡ normalEnds 0 gens
-  pub sums : sum + total rest ≡ total gens
+-- ---- one generator more
 
-pub forming-begins : (gens : List Word) (old oldEnds : List ℕ) → Forming gens old oldEnds gens 0 0 old oldEnds
-forming-begins gens old oldEnds =
-    record {
-      done = [];
-      ends = [];
-      out-is = refl;
-      ends-is = refl;
-      done-length = refl;
-      ends-length = refl;
-      more = refl;
-      more-ends = refl;
-      sums = omega arith;
-    }
+total-more : (gens : List Word) (g : Word) → total (gens ++ g ∷ []) ≡ total gens + length (nf g)
+total-more [] g = omega arith
+total-more (h ∷ gens) g = omega (arith, total-more gens g)
 
-module _ (gens : List Word) (old oldEnds : List ℕ) (all : List Word) (sum i : ℕ) (out outEnds : List ℕ) (f : Forming gens old oldEnds all sum i out outEnds)
-    (g : Word) (rest : List Word) (splits : all ≡ g ∷ rest) where
-  pub forming-room : sum + length (nf g) ≤ total gens
-  forming-room = omega (arith, f .sums, ap total splits)
+normal-bytes-more : (gens : List Word) (g : Word) → normalBytes (gens ++ g ∷ []) ≡ normalBytes gens ++ bytes (nf g)
+normal-bytes-more [] g = append-nil (bytes (nf g))
+normal-bytes-more (h ∷ gens) g =
+    ap (λ (l : List ℕ). bytes (nf h) ++ l) (normal-bytes-more gens g) ∙ sym (append-assoc (bytes (nf h)) (normalBytes gens) (bytes (nf g)))
 
-  pub forming-more : (form : List ℕ) (len : ℕ) (out′ outEnds′ : List ℕ) → len ≡ length (nf g) → form ≡ bytes (nf g) → i < length oldEnds
-      → out′ ≡ paste out sum form len → outEnds′ ≡ set outEnds i (sum + len) → Forming gens old oldEnds rest (sum + len) (i + 1) out′ outEnds′
-  forming-more form len out′ outEnds′ l spells room writes writes-end =
+normal-ends-more : (from : ℕ) (gens : List Word) (g : Word) → normalEnds from (gens ++ g ∷ []) ≡ normalEnds from gens ++ (from + total gens + length (nf g)) ∷ []
+normal-ends-more from [] g = ap (λ (k : ℕ). k ∷ []) (omega arith)
+normal-ends-more from (h ∷ gens) g =
+    ap (λ (l : List ℕ). (from + length (nf h)) ∷ l) (normal-ends-more (from + length (nf h)) gens g
+    ∙ ap (λ (k : ℕ). normalEnds (from + length (nf h)) gens ++ k ∷ []) (omega arith))
+
+-- ---- the normal forms of the first i generators are written, those of `rest` are still to come
+
+pub record Forming (gens : List Word) (oldEnds : List ℕ) (rest : List Word) (sum i : ℕ) (out outEnds : List ℕ) : Type 0 where
+  pub behind : drop i gens ≡ rest
+  pub sums : sum ≡ total (take i gens)
+  pub letters : take sum out ≡ normalBytes (take i gens)
+  pub ends-is : outEnds ≡ overwritten (normalEnds 0 (take i gens)) oldEnds
+
+pub forming-begins : (gens : List Word) (out ends : List ℕ) → Forming gens ends gens 0 0 out ends
+forming-begins gens out ends = record { behind = refl; sums = refl; letters = refl; ends-is = refl }
+
+-- what is copied behind the letters leaves them as they are
+pub letters-kept : (out new : List ℕ) (sum n : ℕ) {out′ : List ℕ} → out′ ≡ paste out sum new n → sum ≤ length out → take sum out′ ≡ take sum out
+letters-kept out new sum n e h =
+    ap (take sum) (e ∙ append-assoc (take sum out) (take n new) (drop (sum + n) out)) ∙ take-at (take sum out) _ sum (length-take-le sum out h)
+
+module _ (gens : List Word) (oldEnds : List ℕ) (all : List Word) (sum i : ℕ) (out outEnds : List ℕ) (f : Forming gens oldEnds all sum i out outEnds)
+    (g : Word) (rest : List Word) (splits : all ≡ g ∷ rest) (within : i < length gens) where
+  -- generator i is g, and `rest` stands behind it
+  split : getD gens i [] ∷ drop (i + 1) gens ≡ g ∷ rest
+  split = rw (add-one i) (sym (drop-cons gens i [] within) ∙ f .behind ∙ splits)
+
+  front : take (i + 1) gens ≡ take i gens ++ g ∷ []
+  front = rw (add-one i) (take-suc gens i [] within ∙ ap (λ (h : Word). take i gens ++ h ∷ []) (ap (λ (l : List Word). getD l 0 []) split))
+
+  pub forming-more : (len : ℕ) {out′ : List ℕ} → len ≡ length (nf g) → out′ ≡ paste out sum (bytes (nf g)) len → sum ≤ length out → i < length oldEnds
+      → Forming gens oldEnds rest (sum + len) (i + 1) out′ (set outEnds i (sum + len))
+  forming-more len l writes room room-ends =
+      let done = take i gens in
+      let ends-length : length (normalEnds 0 done) ≡ i = normal-ends-length 0 done ∙ length-take-le i gens (omega arith) in
+      let spelled : len ≡ length (bytes (nf g)) = l ∙ sym (length-bytes (nf g)) in
+      let end : 0 + total done + length (nf g) ≡ sum + len = omega (arith, f .sums) in
       record {
-        done = f .done ++ form;
-        ends = f .ends ++ (sum + len) ∷ [];
-        out-is = writes ∙ ap (λ (o : List ℕ). paste o sum form len) (f .out-is) ∙ front-pasted (f .done) old sum (f .done-length) form len form-length;
-        ends-is = writes-end ∙ ap (λ (o : List ℕ). set o i (sum + len)) (f .ends-is) ∙ front-stored (f .ends) oldEnds i (f .ends-length) (sum + len) room;
-        done-length = omega (arith, length-append (f .done) form, f .done-length, form-length);
-        ends-length = omega (arith, length-append (f .ends) ((sum + len) ∷ []), f .ends-length);
-        more =
-            append-assoc (f .done) form (normalBytes rest) ∙ ap (λ (b : List ℕ). f .done ++ (b ++ normalBytes rest)) spells
-            ∙ ap (λ (r : List Word). f .done ++ normalBytes r) (sym splits) ∙ f .more;
-        more-ends =
-            append-assoc (f .ends) ((sum + len) ∷ []) (normalEnds (sum + len) rest)
-            ∙ ap (λ (k : ℕ). f .ends ++ (sum + k) ∷ normalEnds (sum + k) rest) l
-            ∙ ap (λ (r : List Word). f .ends ++ normalEnds sum r) (sym splits) ∙ f .more-ends;
-        sums = omega (arith, f .sums, ap total splits);
+        behind = ap (drop 1) split;
+        sums = omega (arith, f .sums, ap total front, total-more done g);
+        letters =
+            ap (take (sum + len)) writes ∙ take-paste out sum (bytes (nf g)) len room (omega (arith, spelled))
+            ∙ ap₂ (λ (x y : List ℕ). x ++ y) (f .letters) (take-all len (bytes (nf g)) (omega (arith, spelled)))
+            ∙ sym (ap normalBytes front ∙ normal-bytes-more done g);
+        ends-is =
+            ap (λ (o : List ℕ). set o i (sum + len)) (f .ends-is) ∙ front-stored (normalEnds 0 done) oldEnds i ends-length (sum + len) room-ends
+            ∙ ap (λ (k : ℕ). overwritten (normalEnds 0 done ++ k ∷ []) oldEnds) (sym end)
+            ∙ ap (λ (e : List ℕ). overwritten e oldEnds) (sym (ap (normalEnds 0) front ∙ normal-ends-more 0 done g));
       }
-    where
-      form-length : length form ≡ len
-      form-length = ap length spells ∙ length-bytes (nf g) ∙ sym l
 
-module _ (gens : List Word) (old oldEnds : List ℕ) (rest : List Word) (sum i : ℕ) (out outEnds : List ℕ) (f : Forming gens old oldEnds rest sum i out outEnds) (over : rest ≡ []) where
-  pub forms-written : out ≡ overwritten (normalBytes gens) old
-  forms-written =
-      let all : f .done ≡ normalBytes gens = sym (append-nil (f .done)) ∙ ap (λ (r : List Word). f .done ++ normalBytes r) (sym over) ∙ f .more in
-      f .out-is ∙ ap (λ (d : List ℕ). overwritten d old) all
-
-  pub ends-written : outEnds ≡ overwritten (normalEnds 0 gens) oldEnds
-  ends-written =
-      let all : f .ends ≡ normalEnds 0 gens = sym (append-nil (f .ends)) ∙ ap (λ (r : List Word). f .ends ++ normalEnds sum r) (sym over) ∙ f .more-ends in
-      f .ends-is ∙ ap (λ (e : List ℕ). overwritten e oldEnds) all
+-- the ends of all the generators stand at the front
+pub all-ends : (old : List ℕ) {slice : List ℕ} (some all : List Word) (n : ℕ) → slice ≡ overwritten (normalEnds 0 some) old → some ≡ all
+    → n ≡ length (normalEnds 0 all) → take n slice ≡ normalEnds 0 all
+all-ends old some all n e whole l =
+    ap (take n) (e ∙ ap (λ (gens : List Word). overwritten (normalEnds 0 gens) old) whole) ∙ take-overwritten (normalEnds 0 all) old n l

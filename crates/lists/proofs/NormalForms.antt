@@ -1,11 +1,12 @@
 -- What reducing a part of a list's letters gives. Assumes nothing.
-use mathlib.Core.Path.{_≡_, refl, sym, ap, subst, _∙_}
-use mathlib.Core.List.{List}
-use Prim.Native.Nat.{ℕ, _*_, _≤_}
+use mathlib.Core.Path.{_≡_, sym, ap, ap₂, subst, _∙_}
+use mathlib.Core.List.{List, _++_, append-assoc, append-nil}
+use Prim.Native.Nat.{ℕ, _+_, _-_, _*_, _≤_}
 use native.Mathlib.Omega.{arith}
-use lib.ListN.{length, take}
-use lib.Seq.{slice, length-slice, take-append-seam}
-use Rattle.words.specs.Word.{Word, nf}
+use lib.ListN.{length, take, drop, length-drop, drop-of-length-le}
+use lib.Seq.{slice, paste, length-slice, take-all, drop-drop}
+use borrow.Rule.Slice.PartMut.{putMid}
+use Rattle.words.specs.Word.{nf}
 use Rattle.words.specs.Bytes.{word, bytes}
 use Rattle.words.specs.Questions.{ofWord}
 use Rattle.words.specs.Slices.{overwritten}
@@ -14,7 +15,6 @@ use Rattle.words.specs.declared.Refusal.{Refusal}
 use Rattle.words.specs.declared.Asked.the-variants.{Passed}
 use Rattle.words.specs.declared.Written.{Written}
 use Rattle.words.specs.declared.Written.the-variants.{Length, Refused}
-use Rattle.words.proofs.Bytes.{length-bytes}
 use Rattle.words.proofs.Answering.{of-word-passes, answers-length, writes-front}
 use Rattle.lists.specs.Reducing.{AllLetters}
 use Rattle.lists.proofs.FirstOthers.{all-letters-slice}
@@ -39,15 +39,26 @@ module _ (list : List ℕ) (from end : ℕ) (before : List ℕ) (r : Written) (a
   unfolding w
   form-length = answers-length nf 1 w before r after slice-writes passes
 
-  pub form-written : take (length (nf (word (slice from end list)))) after ≡ bytes (nf (word (slice from end list)))
+  pub form-written : after ≡ overwritten (bytes (nf (word (slice from end list)))) before
   unfolding w
-  form-written =
-      ap (take (length (nf (word w)))) (writes-front nf 1 w before r after slice-writes passes)
-      ∙ ap (λ (k : ℕ). take k (overwritten (bytes (nf (word w))) before)) (sym (length-bytes (nf (word w))))
-      ∙ take-append-seam (bytes (nf (word w))) _
+  form-written = writes-front nf 1 w before r after slice-writes passes
 
   pub not-refused : (refusal : Refusal) → r ≡ Refused refusal → ⊥
   not-refused refusal e =
       let both = sym e ∙ form-length in
       let z : _≡_ {A = ℕ} 0 1 = cc in
       omega arith
+
+-- a front that is rewritten behind the first `at` entries of a slice is a copy into the slice
+module _ (old new : List ℕ) (at n : ℕ) (within : at ≤ length old) (l : n ≡ length new) where
+  abbrev behind : List ℕ
+  behind = take (length old - at) (drop at old)
+
+  pub front-behind : putMid at (length old - at) old (overwritten new behind) ≡ paste old at new n
+  front-behind =
+      let rest : length (drop at old) ≤ length old - at = omega (arith, length-drop at old) in
+      ap (λ (k : List ℕ). take at old ++ k)
+      (ap₂ (λ (part none : List ℕ). overwritten new part ++ none) (take-all (length old - at) (drop at old) rest) (drop-of-length-le (drop at old) rest)
+      ∙ append-nil (overwritten new (drop at old))
+      ∙ ap₂ (λ (front back : List ℕ). front ++ back) (sym (take-all n new (omega arith))) (drop-drop (length new) at old ∙ ap (λ (k : ℕ). drop (at + k) old) (sym l)))
+      ∙ sym (append-assoc (take at old) (take n new) (drop (at + n) old))

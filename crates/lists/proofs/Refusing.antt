@@ -1,5 +1,5 @@
 -- The first no of a list's questions, by the tests that a program makes. Assumes nothing.
-use mathlib.Core.Path.{_≡_, sym, _∙_}
+use mathlib.Core.Path.{_≡_, _∙_}
 use mathlib.Core.List.{List, [], _∷_, _++_}
 use Prim.Native.Nat.{ℕ, _≤_, _<_}
 use lib.Dec.{leb, eqb}
@@ -11,7 +11,7 @@ use Rattle.words.specs.declared.Refusal.the-variants.{TooManyGenerators, TooMan
 use Rattle.words.specs.declared.Asked.{Asked}
 use Rattle.words.specs.declared.Asked.the-variants.{Passed, Refused}
 use Rattle.words.proofs.Asking.{yes-first, no-first, passed-first, refused-first, first-no-one}
-use Rattle.lists.specs.Questions.{question7, firstFall, lastEnd, question9, ofList}
+use Rattle.lists.specs.Questions.{firstFall, lastEnd, question9, ofList}
 
 module _ (ends : List ℕ) (letters : ℕ) where
   abbrev rest9 : List Asked

@@ -7,6 +7,7 @@ use words::Asked;
 use words::Letters;
 use words::Refusal;
 use words::Written;
+use words::copying::copy_at;
 ghost use mathlib.Core.Path.{_≡_};
 ghost use Rattle.lists.specs.Questions.{ofList};
 ghost use Rattle.lists.specs.Reducing.{Checked};
@@ -43,21 +44,30 @@ pub fn reduce_list(bytes: &[u8], ends: &[u16], out: &mut [u8], out_ends: &mut [u
     }
 }
 
-// The same, of a list that has passed questions 7 to 10.
+// The most generators that question 7 lets pass.
+const GENERATORS: usize = 64;
+
+// Room for the 320 letters that question 11 lets pass, and for one generator that it does not.
+const FORMS: usize = 4416;
+
+// The same, of a list that has passed questions 7 to 10. The forms are first written to slices of its own: a refusal changes no lent one.
 fn reduce_checked(bytes: &[u8], ends: &[u16], out: &mut [u8], out_ends: &mut [u16]) -> Written
     requires { ⌜ Checked (now bytes) (now ends) ⌝ }
     ensures { λ r. ⌜ ReducesList (now (bytes .entry)) (now (ends .entry)) (now (out .entry)) (now («out_ends» .entry)) r (now (out .exit)) (now («out_ends» .exit)) ⌝ }
 {
-    let measured = reducing::measure(bytes, ends);
-    if measured.long < ends.len() {
-        return Written::Refused(Refusal::GeneratorTooLong(measured.long));
+    let mut forms = [0u8; FORMS];
+    let mut form_ends = [0u16; GENERATORS];
+    let reduced = reducing::write_forms(bytes, ends, &mut forms, &mut form_ends);
+    if reduced.count < ends.len() {
+        return Written::Refused(Refusal::GeneratorTooLong(reduced.count));
     }
-    if out.len() < measured.sum {
+    if out.len() < reduced.sum {
         return Written::Refused(Refusal::OutputTooShort);
     }
     if out_ends.len() < ends.len() {
         return Written::Refused(Refusal::OutputTooShort);
     }
-    reducing::write_forms(bytes, ends, out, out_ends);
-    Written::Length(Letters(measured.sum as u16))
+    copy_at(&forms[..reduced.sum], out, 0);
+    reducing::copy_ends(&form_ends, ends.len(), out_ends);
+    Written::Length(Letters(reduced.sum as u16))
 }

@@ -1,56 +1,42 @@
 -- Each answer is the first no by the tests on the way. Assumes nothing.
 use mathlib.Core.Path.{sym, _∙_}
 use Rattle.lists.proofs.Refusing.{too-many-generators, too-many-letters, target-too-long, ends-wrong, by-letters}
-use native.Mathlib.Omega.{arith}
 use borrow.Author.Needs.{needs}
 use Rattle.lists.proofs.of_list.Statement.{statement}
 use Rattle.lists.proofs.of_list.Tie as tie
-use Rattle.lists.proofs.of_list.Reads as reads
-use Rattle.lists.proofs.of_list.Lts as lts
-use Rattle.lists.proofs.ends.of_all_letters.Reads as of-all-letters-reads
-use Rattle.lists.proofs.ends.of_ends.Reads as of-ends-reads
 
--- src/lib.rt:20:9
 returns : tie.Need-returns
 returns c =
     let a = c .before .before .before .before .args in
     sym (too-many-generators (a .bytes .now) (a .ends .now) (a .target .now) (c .if1 .taken))
 
--- src/lib.rt:23:9
 returns-2 : tie.Need-returns-2
 returns-2 c =
     let a = c .before .before .before .before .before .args in
     sym (too-many-letters (a .bytes .now) (a .ends .now) (a .target .now) (c .before .if1 .left) (c .if2 .taken))
 
--- src/lib.rt:26:9
 returns-3 : tie.Need-returns-3
 returns-3 c =
     let a = c .before .before .before .before .before .before .args in
     sym (target-too-long (a .bytes .now) (a .ends .now) (a .target .now) (c .before .before .if1 .left) (c .before .if2 .left) (c .if3 .taken))
 
--- src/lib.rt:28:11
 of-ends-requires : tie.Need-of-ends-requires
 of-ends-requires c κs = search needs
 
--- src/lib.rt:29:24
 enum-known-refusal : tie.Need-enum-known-refusal
 enum-known-refusal c = search needs
 
--- src/lib.rt:30:26
 enum-told : tie.Need-enum-told
 enum-told c = search needs
 
--- src/lib.rt:30:26
 of-all-letters-requires : tie.Need-of-all-letters-requires
 of-all-letters-requires c κs = search needs
 
--- src/lib.rt:16:1
 returns-4 : tie.Need-returns-4
 returns-4 c =
     let a = c .before .before .before .before .before .before .before .before .before .before .args in
     sym (ends-wrong (a .bytes .now) (a .ends .now) (a .target .now) (c .before .before .before .before .before .before .if1 .left) (c .before .before .before .before .before .if2 .left) (c .before .before .before .before .if3 .left) (sym (c .before .before .before .of-ends .ensures) ∙ c .before .refusal .given .1))
 
--- src/lib.rt:16:1
 returns-5 : tie.Need-returns-5
 returns-5 c =
     let a = c .before .before .before .before .before .before .before .before .before .before .args in

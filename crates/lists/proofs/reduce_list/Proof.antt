@@ -1,50 +1,36 @@
 -- The questions of the list come first. Assumes nothing.
 use mathlib.Core.Path.{sym, _∙_}
 use Rattle.lists.proofs.Answering.{list-refused}
-use native.Mathlib.Omega.{arith}
 use borrow.Author.Needs.{needs}
 use Rattle.lists.proofs.reduce_list.Statement.{statement}
 use Rattle.lists.proofs.reduce_list.Tie as tie
-use Rattle.lists.proofs.reduce_list.Reads as reads
-use Rattle.lists.proofs.reduce_list.Lts as lts
-use Rattle.lists.proofs.of_list.Reads as of-list-reads
-use Rattle.lists.proofs.reduce_checked.Reads as reduce-checked-reads
 
--- src/lib.rt:40:32
 slice-aggregate-of-list : tie.Need-slice-aggregate-of-list
 slice-aggregate-of-list c = search needs
 
--- src/lib.rt:40:11
 of-list-requires : tie.Need-of-list-requires
 of-list-requires c κs = search needs
 
--- src/lib.rt:41:24
 enum-known-refusal : tie.Need-enum-known-refusal
 enum-known-refusal c = search needs
 
--- src/lib.rt:42:54
 enum-told : tie.Need-enum-told
 enum-told c = search needs
 
--- src/lib.rt:42:26
 reduce-checked-requires : tie.Need-reduce-checked-requires
 reduce-checked-requires c κs = sym (c .before .before .before .before .of-list .ensures) ∙ c .before .before .enum-told .given .1
 
--- src/lib.rt:36:1
 returns : tie.Need-returns
 returns c =
     let a = c .before .before .before .before .before .before .before .before .before .args in
     list-refused (a .bytes .now) (a .ends .now) (a .out .now) (a .out-ends .now) (sym (c .before .before .before .of-list .ensures) ∙ c .before .refusal .given .1)
 
--- src/lib.rt:36:1
 same-length : tie.Need-same-length
 same-length c = search needs
 
--- src/lib.rt:36:1
 same-length-2 : tie.Need-same-length-2
 same-length-2 c = search needs
 
--- src/lib.rt:36:1
 returns-2 : tie.Need-returns-2
 returns-2 c = search needs
 

@@ -8,8 +8,6 @@ use borrow.Author.Needs.{needs}
 use native.Mathlib.Omega.{arith}
 use Rattle.lists.proofs.ends.first_fall.Statement.{statement}
 use Rattle.lists.proofs.ends.first_fall.Tie as tie
-use Rattle.lists.proofs.ends.first_fall.Reads as reads
-use Rattle.lists.proofs.ends.first_fall.Lts as lts
 
 abbrev Inv-loop : tie.InvT-loop
 Inv-loop ends from₀ i₀ from i = (i ≤ length ends) × (firstFall 0 ends ≡ i + firstFall from (drop i ends))

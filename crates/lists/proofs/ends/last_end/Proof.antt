@@ -5,8 +5,6 @@ use native.Mathlib.Omega.{arith}
 use borrow.Author.Needs.{needs}
 use Rattle.lists.proofs.ends.last_end.Statement.{statement}
 use Rattle.lists.proofs.ends.last_end.Tie as tie
-use Rattle.lists.proofs.ends.last_end.Reads as reads
-use Rattle.lists.proofs.ends.last_end.Lts as lts
 
 returns : tie.Need-returns
 returns c = sym (last-end-none 0 (c .before .before .args .ends .now) (c .if1 .taken))

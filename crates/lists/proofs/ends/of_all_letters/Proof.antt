@@ -12,9 +12,6 @@ use native.Mathlib.Omega.{arith}
 use borrow.Author.Needs.{needs}
 use Rattle.lists.proofs.ends.of_all_letters.Statement.{statement}
 use Rattle.lists.proofs.ends.of_all_letters.Tie as tie
-use Rattle.lists.proofs.ends.of_all_letters.Reads as reads
-use Rattle.lists.proofs.ends.of_all_letters.Lts as lts
-use Rattle.words.proofs.questions.first_other.Reads as first-other-reads
 
 first-other-requires : tie.Need-first-other-requires
 first-other-requires c κs = search needs

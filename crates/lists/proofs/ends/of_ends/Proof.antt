@@ -1,14 +1,9 @@
 -- Each answer is the first no by the tests on the way. Assumes nothing.
 use mathlib.Core.Path.{sym, _∙_}
 use Rattle.lists.proofs.Refusing.{an-end-falls, ends-right, last-end-wrong}
-use native.Mathlib.Omega.{arith}
 use borrow.Author.Needs.{needs}
 use Rattle.lists.proofs.ends.of_ends.Statement.{statement}
 use Rattle.lists.proofs.ends.of_ends.Tie as tie
-use Rattle.lists.proofs.ends.of_ends.Reads as reads
-use Rattle.lists.proofs.ends.of_ends.Lts as lts
-use Rattle.lists.proofs.ends.first_fall.Reads as first-fall-reads
-use Rattle.lists.proofs.ends.last_end.Reads as last-end-reads
 
 first-fall-requires : tie.Need-first-fall-requires
 first-fall-requires c κs = search needs

@@ -1,27 +1,31 @@
 -- The questions of reduction are all answered yes. Assumes nothing.
 use mathlib.Core.Path.{_≡_, sym, ap, _∙_}
-use Prim.Native.Nat.{ℕ}
-use lib.ListN.{length, take}
-use lib.Seq.{slice}
+use mathlib.Core.List.{List}
+use Prim.Native.Nat.{ℕ, _+_, _-_, _≤_}
+use lib.ListN.{length, take, drop, length-drop}
+use lib.Seq.{slice, length-take-le}
+use borrow.Rule.Slice.PartMut.{putMid}
 use Rattle.words.specs.Word.{nf}
-use Rattle.words.specs.Bytes.{word as wordOf}
+use Rattle.words.specs.Bytes.{word as wordOf, bytes as bytesOf}
 use Rattle.words.specs.declared.Letters.{Letters}
 use Rattle.words.specs.declared.Written.the-variants.{Length}
+use Rattle.words.proofs.Bytes.{length-bytes}
 use Rattle.lists.proofs.FirstOthers.{part-slice}
-use Rattle.lists.proofs.NormalForms.{form-length, form-written, not-refused}
+use Rattle.lists.proofs.NormalForms.{form-length, form-written, not-refused, front-behind}
 use native.Mathlib.Omega.{arith}
 use borrow.Author.Needs.{needs}
 use Rattle.lists.proofs.reducing.normal_form.Statement.{statement}
 use Rattle.lists.proofs.reducing.normal_form.Tie as tie
-use Rattle.lists.proofs.reducing.normal_form.Reads as reads
-use Rattle.lists.proofs.reducing.normal_form.Lts as lts
-use Rattle.words.proofs.reduce.Reads as reduce-reads
 
 -- the length that an answer holds
 length-of : {n m : ℕ} {l : Letters} → n ≡ l .0 → Length l ≡ Length (record { 0 = m }) → n ≡ m
 length-of {n} {m} {l} e f =
     let same : l ≡ record { 0 = m } = cc in
     e ∙ ap (λ (k : Letters). k .0) same
+
+-- what stands behind a place has room for 4,096 letters
+room-behind : (out : List ℕ) (at : ℕ) → at + 4096 ≤ length out → 4096 ≤ length (take (length out - at) (drop at out))
+room-behind out at h = omega (arith, length-take-le (length out - at) (drop at out) (omega (arith, length-drop at out)))
 
 sub-reduce : tie.Need-sub-reduce
 sub-reduce c = search needs
@@ -31,6 +35,15 @@ part-reduce-start c = search needs
 
 part-reduce-end : tie.Need-part-reduce-end
 part-reduce-end c = search needs
+
+sub-reduce-2 : tie.Need-sub-reduce-2
+sub-reduce-2 c = search needs
+
+part-reduce-start-2 : tie.Need-part-reduce-start-2
+part-reduce-start-2 c = search needs
+
+part-reduce-end-2 : tie.Need-part-reduce-end-2
+part-reduce-end-2 c = search needs
 
 reduce-requires : tie.Need-reduce-requires
 reduce-requires c κs = search needs
@@ -53,8 +66,17 @@ returns c =
     let p = c .before .before .before .before .before .before .before .before .before .before .before .pre in
     let m = c .before .before .before .before .before .before .reduce in
     let is-slice = part-slice (a .bytes .now) (a .from) (a .end) (p .0) in
-    let len : c .wide .result ≡ length (nf (wordOf (slice (a .from) (a .end) (a .bytes .now)))) = length-of (c .wide .ensures) (sym (c .before .before .letters .given .1) ∙ form-length (a .bytes .now) (a .from) (a .end) (a .form .now) (m .result) (m .last .1 .0) _ is-slice (p .1 .1 .0) (p .1 .0) (p .1 .1 .1 .0) (p .1 .1 .1 .1) (m .ensures)) in
-    (len, ap (λ (k : ℕ). take k (m .last .1 .0)) len ∙ form-written (a .bytes .now) (a .from) (a .end) (a .form .now) (m .result) (m .last .1 .0) _ is-slice (p .1 .1 .0) (p .1 .0) (p .1 .1 .1 .0) (p .1 .1 .1 .1) (m .ensures))
+    let out = a .out .now in
+    let room = room-behind out (a .at) (p .1 .1 .1 .1) in
+    let form = nf (wordOf (slice (a .from) (a .end) (a .bytes .now))) in
+    let len : c .wide .result ≡ length form =
+    length-of (c .wide .ensures)
+    (sym (c .before .before .letters .given .1) ∙ form-length (a .bytes .now) (a .from) (a .end) _ (m .result) (m .last .1 .0) _ is-slice (p .1 .1 .0) (p .1 .0) (p .1 .1 .1 .0) room (m .ensures)) in (
+      len,
+      ap (putMid (a .at) (length out - a .at) out)
+          (form-written (a .bytes .now) (a .from) (a .end) _ (m .result) (m .last .1 .0) _ is-slice (p .1 .1 .0) (p .1 .0) (p .1 .1 .1 .0) room (m .ensures))
+          ∙ front-behind out (bytesOf form) (a .at) (c .wide .result) (omega arith) (len ∙ sym (length-bytes form)),
+    )
 
 same-length-2 : tie.Need-same-length-2
 same-length-2 c = search needs
@@ -65,7 +87,9 @@ returns-2 c =
     let p = c .before .before .before .before .before .before .before .before .before .pre in
     let m = c .before .before .before .before .reduce in
     let is-slice = part-slice (a .bytes .now) (a .from) (a .end) (p .0) in
-    absurd (not-refused (a .bytes .now) (a .from) (a .end) (a .form .now) (m .result) (m .last .1 .0) _ is-slice (p .1 .1 .0) (p .1 .0) (p .1 .1 .1 .0) (p .1 .1 .1 .1) (m .ensures) _ (c .enum-told .given .1))
+    let out = a .out .now in
+    let room = room-behind out (a .at) (p .1 .1 .1 .1) in
+    absurd (not-refused (a .bytes .now) (a .from) (a .end) _ (m .result) (m .last .1 .0) _ is-slice (p .1 .1 .0) (p .1 .0) (p .1 .1 .1 .0) room (m .ensures) _ (c .enum-told .given .1))
 
 pub normal-form-spec : {M : Type 1} → statement M
 normal-form-spec =
@@ -74,6 +98,9 @@ normal-form-spec =
     sub-reduce
     part-reduce-start
     part-reduce-end
+    sub-reduce-2
+    part-reduce-start-2
+    part-reduce-end-2
     reduce-requires
     enum-known-letters
     wide-requires

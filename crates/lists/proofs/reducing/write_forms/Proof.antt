@@ -1,31 +1,30 @@
--- The normal forms of the first i generators are written, one behind the other, with their ends. Assumes nothing.
-use mathlib.Core.Path.{_≡_, refl, sym, ap, subst, _∙_}
+-- The normal forms of the first i generators, none of them too long, are written, one behind the other, with their ends. Assumes nothing.
+use mathlib.Core.Path.{_≡_, refl, ap, _∙_}
 use mathlib.Core.List.{List, []}
 use Prim.Native.Nat.{ℕ, _+_, _-_, _≤_, _<_}
-use lib.ListN.{length, take, drop, getD, drop-of-length-le}
+use native.Mathlib.Omega.{arith}
+use lib.ListN.{length, drop, length-set, drop-of-length-le}
 use lib.Seq.{slice}
 use Rattle.words.specs.Word.{nf}
 use Rattle.words.specs.Bytes.{word, bytes as bytesOf}
 use Rattle.products.specs.Product.{generatorsFrom, generators}
+use Rattle.products.proofs.Generators.{generators-length}
+use Rattle.lists.specs.Questions.{firstLong}
 use Rattle.lists.proofs.Passing.{list-passed}
-use Rattle.lists.proofs.Behind.{Behind, behind-begins, checked-letters, generators-next, behind-from, behind-next, behind-within}
-use Rattle.lists.proofs.Forms.{Forming, forming-begins, forming-room, forming-more, forms-written, ends-written}
+use Rattle.lists.proofs.Behind.{Behind, behind-begins, checked-letters, generators-next, behind-from, behind-next, behind-within, long-form, long-sum, long-later}
+use Rattle.lists.proofs.Forms.{Forming, forming-begins, forming-more, letters-kept}
 use borrow.Author.Needs.{needs}
-use native.Mathlib.Omega.{arith}
 use Rattle.lists.proofs.reducing.write_forms.Statement.{statement}
 use Rattle.lists.proofs.reducing.write_forms.Tie as tie
-use Rattle.lists.proofs.reducing.write_forms.Reads as reads
-use Rattle.lists.proofs.reducing.write_forms.Lts as lts
-use Rattle.lists.proofs.reducing.normal_form.Reads as normal-form-reads
-use Rattle.lists.proofs.reducing.put_form.Reads as put-form-reads
 
 abbrev Inv-loop : tie.InvT-loop
-Inv-loop bytes ends out₀ out-ends₀ form₀ sum₀ from₀ i₀ out out-ends form sum from i =
-    (i ≤ length ends) × Behind bytes ends from i × (length form ≡ 4096) × (length out ≡ length out₀) × (length out-ends ≡ length out-ends₀)
-    × Forming (generators bytes ends) out₀ out-ends₀ (generatorsFrom bytes from (drop i ends)) sum i out out-ends
+Inv-loop bytes ends out₀ out-ends₀ sum₀ from₀ i₀ out out-ends sum from i =
+    (i ≤ length ends) × Behind bytes ends from i × (length out ≡ length out₀) × (length out-ends ≡ length out-ends₀)
+    × (sum ≤ 320) × (firstLong 0 (generators bytes ends) ≡ i + firstLong sum (generatorsFrom bytes from (drop i ends)))
+    × Forming (generators bytes ends) out-ends₀ (generatorsFrom bytes from (drop i ends)) sum i out out-ends
 
 abbrev μ-loop : tie.MeasureT-loop
-μ-loop bytes ends out₀ out-ends₀ form₀ sum₀ from₀ i₀ out out-ends form sum from i = length ends - i
+μ-loop bytes ends out₀ out-ends₀ sum₀ from₀ i₀ out out-ends sum from i = length ends - i
 
 loop-holds : tie.Need-loop-holds Inv-loop μ-loop
 loop-holds c =
@@ -34,7 +33,8 @@ loop-holds c =
       behind-begins (a .bytes .now) (a .ends .now) (c .before .before .before .before .pre .0),
       refl,
       refl,
-      refl,
+      omega arith,
+      omega arith,
       forming-begins (generators (a .bytes .now) (a .ends .now)) (a .out .now) (a .out-ends .now),
     )
 
@@ -47,65 +47,80 @@ shared-slice-read-wide c = search needs
 wide-requires : tie.Need-wide-requires Inv-loop μ-loop
 wide-requires c κs = search needs
 
-slice-aggregate-normal-form : tie.Need-slice-aggregate-normal-form Inv-loop μ-loop
-slice-aggregate-normal-form c = sym (c .before .before .before .before .loop .inv .2)
-
 normal-form-requires : tie.Need-normal-form-requires Inv-loop μ-loop
 normal-form-requires c κs =
     let l = c .before .before .before .before .loop in
     let a = c .before .before .before .before .before .before .before .before .before .args in
     let bytes = a .bytes .now in
     let ends = a .ends .now in
+    let end = c .before .wide .ensures in
     let here : l .i < length ends = omega arith in
-    let e = c .before .wide .ensures in
-    let b = l .inv .1 in
-    let checked = c .before .before .before .before .before .before .before .before .before .pre .0 in (
-      omega (arith, e, behind-from bytes ends (l .from) (l .i) here b),
+    let p = c .before .before .before .before .before .before .before .before .before .pre in (
+      behind-from bytes ends (l .from) (l .i) here end (l .inv .1),
       (
-        omega (arith, e, behind-within bytes ends (l .from) (l .i) here b),
-        (checked-letters bytes ends checked, (list-passed bytes ends [] checked .short, omega (arith, l .inv .2))),
+        behind-within bytes ends (l .from) (l .i) here end (l .inv .1),
+        (checked-letters bytes ends (p .0), (list-passed bytes ends [] (p .0) .short, omega (arith, p .1 .0, l .inv .2, l .inv .4))),
       ),
     )
 
-slice-aggregate-put-form : tie.Need-slice-aggregate-put-form Inv-loop μ-loop
-slice-aggregate-put-form c = sym (c .before .before .normal-form .kept .1 .1 .1 .0 ∙ c .before .before .before .before .before .before .before .loop .inv .2)
+same-length : tie.Need-same-length Inv-loop μ-loop
+same-length c = search needs
 
-put-form-requires : tie.Need-put-form-requires Inv-loop μ-loop
-put-form-requires c κs =
+same-length-2 : tie.Need-same-length-2 Inv-loop μ-loop
+same-length-2 c = search needs
+
+returns : tie.Need-returns Inv-loop μ-loop
+returns c =
+    let l = c .before .before .before .before .before .before .before .before .loop in
+    let a = c .before .before .before .before .before .before .before .before .before .before .before .before .before .args in
+    let p = c .before .before .before .before .before .before .before .before .before .before .before .before .before .pre in
+    let bytes = a .bytes .now in
+    let ends = a .ends .now in
+    let end = c .before .before .before .before .before .wide .ensures in
+    let n = c .before .before .before .normal-form in
+    let here : l .i < length ends = omega arith in
+    let next = generators-next bytes ends (l .from) (l .i) here end in
+    let f = l .inv .6 in
+    let room : l .sum ≤ length (l .out) = omega (arith, p .1 .0, l .inv .2, l .inv .4) in
+    let letters = letters-kept (l .out) (bytesOf (nf (word (slice (l .from) (c .before .before .before .before .before .wide .result) bytes)))) (l .sum) (n .result) (n .ensures .1) room ∙ f .letters in
+    (omega (arith, l .inv .5, long-form (l .sum) _ _ next (n .ensures .0) (c .if1 .taken)), ((l .inv .4, f .sums), (letters, f .ends-is)))
+
+add-if2 : tie.Need-add-if2 Inv-loop μ-loop
+add-if2 c = search needs
+
+same-length-3 : tie.Need-same-length-3 Inv-loop μ-loop
+same-length-3 c = search needs
+
+same-length-4 : tie.Need-same-length-4 Inv-loop μ-loop
+same-length-4 c = search needs
+
+returns-2 : tie.Need-returns-2 Inv-loop μ-loop
+returns-2 c =
     let l = c .before .before .before .before .before .before .before .before .before .loop in
     let a = c .before .before .before .before .before .before .before .before .before .before .before .before .before .before .args in
+    let p = c .before .before .before .before .before .before .before .before .before .before .before .before .before .before .pre in
     let bytes = a .bytes .now in
     let ends = a .ends .now in
-    let here : l .i < length ends = omega arith in
-    let e = c .before .before .before .before .before .before .wide .ensures in
+    let end = c .before .before .before .before .before .before .wide .ensures in
     let n = c .before .before .before .before .normal-form in
-    let next = generators-next bytes ends (l .from) (l .i) here in
-    let gens = generators bytes ends in
-    let rest = generatorsFrom bytes (getD ends (l .i) 0) (drop (l .i + 1) ends) in
-    let g = word (slice (l .from) (getD ends (l .i) 0) bytes) in
-    let len = n .ensures .0 ∙ ap (λ (k : ℕ). length (nf (word (slice (l .from) k bytes)))) e in
-    let p = c .before .before .before .before .before .before .before .before .before .before .before .before .before .before .pre in
-    let room = forming-room gens (a .out .now) (a .out-ends .now) (generatorsFrom bytes (l .from) (drop (l .i) ends)) (l .sum) (l .i) (l .out) (l .out-ends) (l .inv .5) g rest next in
-    let form = n .kept .1 .1 .1 .0 ∙ l .inv .2 in
-    let short : length (nf g) ≤ 4096 = omega (arith, room, p .1 .0) in
-    (omega (arith, form, len, short), (omega (arith, room, len, p .1 .1 .0, l .inv .3), (omega (arith, room, len, p .1 .0), omega (arith, l .inv .4, p .1 .1 .1))))
+    let here : l .i < length ends = omega arith in
+    let next = generators-next bytes ends (l .from) (l .i) here end in
+    let f = l .inv .6 in
+    let room : l .sum ≤ length (l .out) = omega (arith, p .1 .0, l .inv .2, l .inv .4) in
+    let letters = letters-kept (l .out) (bytesOf (nf (word (slice (l .from) (c .before .before .before .before .before .before .wide .result) bytes)))) (l .sum) (n .result) (n .ensures .1) room ∙ f .letters in
+    (omega (arith, l .inv .5, long-sum (l .sum) _ _ next (n .ensures .0) (c .before .if1 .left) (c .if2 .taken)), ((l .inv .4, f .sums), (letters, f .ends-is)))
 
 add-sum : tie.Need-add-sum Inv-loop μ-loop
-add-sum c =
-    let l = c .before .before .before .before .before .before .before .before .before .before .before .before .before .before .loop in
-    let a = c .before .before .before .before .before .before .before .before .before .before .before .before .before .before .before .before .before .before .before .args in
-    let bytes = a .bytes .now in
-    let ends = a .ends .now in
-    let here : l .i < length ends = omega arith in
-    let e = c .before .before .before .before .before .before .before .before .before .before .before .wide .ensures in
-    let n = c .before .before .before .before .before .before .before .before .before .normal-form in
-    let next = generators-next bytes ends (l .from) (l .i) here in
-    let gens = generators bytes ends in
-    let rest = generatorsFrom bytes (getD ends (l .i) 0) (drop (l .i + 1) ends) in
-    let g = word (slice (l .from) (getD ends (l .i) 0) bytes) in
-    let len = n .ensures .0 ∙ ap (λ (k : ℕ). length (nf (word (slice (l .from) k bytes)))) e in
-    let p = c .before .before .before .before .before .before .before .before .before .before .before .before .before .before .before .before .before .before .before .pre in
-    omega (arith, len, p .1 .0, forming-room gens (a .out .now) (a .out-ends .now) (generatorsFrom bytes (l .from) (drop (l .i) ends)) (l .sum) (l .i) (l .out) (l .out-ends) (l .inv .5) g rest next)
+add-sum c = search needs
+
+cast-out-ends : tie.Need-cast-out-ends Inv-loop μ-loop
+cast-out-ends c = search needs
+
+mul-out-ends : tie.Need-mul-out-ends Inv-loop μ-loop
+mul-out-ends c = search needs
+
+slice-write-out-ends : tie.Need-slice-write-out-ends Inv-loop μ-loop
+slice-write-out-ends c = search needs
 
 add-i : tie.Need-add-i Inv-loop μ-loop
 add-i c = search needs
@@ -115,49 +130,41 @@ loop-less c = search needs
 
 loop-again : tie.Need-loop-again Inv-loop μ-loop
 loop-again c =
-    let l = c .before .before .before .before .before .before .before .before .before .before .before .before .before .before .loop in
-    let a = c .before .before .before .before .before .before .before .before .before .before .before .before .before .before .before .before .before .before .before .args in
+    let l = c .before .before .before .before .before .before .before .before .before .loop in
+    let a = c .before .before .before .before .before .before .before .before .before .before .before .before .before .before .args in
+    let p = c .before .before .before .before .before .before .before .before .before .before .before .before .before .before .pre in
     let bytes = a .bytes .now in
     let ends = a .ends .now in
+    let end = c .before .before .before .before .before .before .wide .ensures in
+    let n = c .before .before .before .before .normal-form in
     let here : l .i < length ends = omega arith in
-    let e = c .before .before .before .before .before .before .before .before .before .before .before .wide .ensures in
-    let n = c .before .before .before .before .before .before .before .before .before .normal-form in
-    let next = generators-next bytes ends (l .from) (l .i) here in
-    let gens = generators bytes ends in
-    let rest = generatorsFrom bytes (getD ends (l .i) 0) (drop (l .i + 1) ends) in
-    let g = word (slice (l .from) (getD ends (l .i) 0) bytes) in
-    let len = n .ensures .0 ∙ ap (λ (k : ℕ). length (nf (word (slice (l .from) k bytes)))) e in
-    let w = c .before .before .before .before .put-form in
-    let p = c .before .before .before .before .before .before .before .before .before .before .before .before .before .before .before .before .before .before .before .pre in
-    let spells = ap (λ (k : ℕ). bytesOf (nf (word (slice (l .from) k bytes)))) e in
-    let formed =
-    forming-more gens (a .out .now) (a .out-ends .now) (generatorsFrom bytes (l .from) (drop (l .i) ends)) (l .sum) (l .i) (l .out) (l .out-ends) (l .inv .5) g rest next
-    (take (n .result) (n .last .1 .1 .1 .0)) (n .result) _ _ len (n .ensures .1 ∙ spells) (omega (arith, p .1 .1 .1)) (w .ensures .0) (w .ensures .1) in (
+    let next = generators-next bytes ends (l .from) (l .i) here end in
+    let f = l .inv .6 in
+    let room : l .sum ≤ length (l .out) = omega (arith, p .1 .0, l .inv .2, l .inv .4) in
+    let later = long-later (l .sum) _ _ next (n .ensures .0) (c .before .if1 .left) (c .if2 .left) in (
       omega arith,
-      subst (λ (k : ℕ). Behind bytes ends k (l .i + 1)) (sym e) (behind-next bytes ends (l .from) (l .i) here (l .inv .1)),
+      behind-next bytes ends (l .from) (l .i) here end (l .inv .1),
       n .kept .1 .1 .1 .0 ∙ l .inv .2,
-      w .kept .1 .1 .0 ∙ l .inv .3,
-      w .kept .1 .1 .1 .1 .0 ∙ l .inv .4,
-      subst (λ (k : ℕ). Forming gens (a .out .now) (a .out-ends .now) (generatorsFrom bytes k (drop (l .i + 1) ends)) (l .sum + n .result) (l .i + 1) (w .last .1 .1 .0) (w .last .1 .1 .1 .1 .0)) (sym e) formed,
+      length-set (l .out-ends) (l .i) (l .sum + n .result) ∙ l .inv .3,
+      c .if2 .left,
+      omega (arith, l .inv .5, later),
+      forming-more (generators bytes ends) (a .out-ends .now) _ (l .sum) (l .i) (l .out) (l .out-ends) f _ _ next (omega (arith, generators-length bytes 0 ends))
+          (n .result) (n .ensures .0) (n .ensures .1) room (omega (arith, p .1 .1)),
     )
 
-same-length : tie.Need-same-length Inv-loop μ-loop
-same-length c = c .before .loop .inv .3
+same-length-5 : tie.Need-same-length-5 Inv-loop μ-loop
+same-length-5 c = search needs
 
-same-length-2 : tie.Need-same-length-2 Inv-loop μ-loop
-same-length-2 c = c .before .loop .inv .4
+same-length-6 : tie.Need-same-length-6 Inv-loop μ-loop
+same-length-6 c = search needs
 
-returns : tie.Need-returns Inv-loop μ-loop
-returns c =
+returns-3 : tie.Need-returns-3 Inv-loop μ-loop
+returns-3 c =
     let l = c .before .loop in
     let a = c .before .before .before .before .before .before .args in
-    let bytes = a .bytes .now in
-    let ends = a .ends .now in
-    let rest = generatorsFrom bytes (l .from) (drop (l .i) ends) in
-    let over : rest ≡ [] = ap (generatorsFrom bytes (l .from)) (drop-of-length-le ends (c .loop-test .left)) in (
-      forms-written (generators bytes ends) (a .out .now) (a .out-ends .now) rest (l .sum) (l .i) (l .out) (l .out-ends) (l .inv .5) over,
-      ends-written (generators bytes ends) (a .out .now) (a .out-ends .now) rest (l .sum) (l .i) (l .out) (l .out-ends) (l .inv .5) over,
-    )
+    let f = l .inv .6 in
+    let over = ap (λ (r : List ℕ). firstLong (l .sum) (generatorsFrom (a .bytes .now) (l .from) r)) (drop-of-length-le (a .ends .now) (c .loop-test .left)) in
+    (omega (arith, l .inv .5, over), ((l .inv .4, f .sums), (f .letters, f .ends-is)))
 
 pub write-forms-spec : {M : Type 1} → statement M
 write-forms-spec =
@@ -169,14 +176,21 @@ write-forms-spec =
     mul-wide
     shared-slice-read-wide
     wide-requires
-    slice-aggregate-normal-form
     normal-form-requires
-    slice-aggregate-put-form
-    put-form-requires
+    same-length
+    same-length-2
+    returns
+    add-if2
+    same-length-3
+    same-length-4
+    returns-2
     add-sum
+    cast-out-ends
+    mul-out-ends
+    slice-write-out-ends
     add-i
     loop-less
     loop-again
-    same-length
-    same-length-2
-    returns)
+    same-length-5
+    same-length-6
+    returns-3)
