@@ -1,17 +1,11 @@
 // Entries of the slices that a tree, its table and the rows of a target are kept in.
+use words::widening::wide;
 ghost use mathlib.Core.Path.{_≡_};
 ghost use Prim.Native.Nat.{_≤_, _<_};
 ghost use lib.ListN.{length};
 ghost use Rattle.trees.specs.Tree.{at};
 ghost use Rattle.tables.specs.Rules.{place};
 ghost use Rattle.engine.specs.Tight.{Counts};
-
-// A number of 16 bits among those that index a slice.
-fn wide(x: u16) -> usize
-    ensures { λ r. ⌜ (r ≡ x) × (r ≤ 65535) ⌝ }
-{
-    x as usize
-}
 
 // The number at a place of a slice.
 pub(crate) fn entry(s: &[u16], p: usize) -> usize

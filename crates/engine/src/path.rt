@@ -1,6 +1,7 @@
 // The rows of a target: row i has, for each node q, the least number of factors that make the target's first i letters and then q's word,
 // or n + 1. Each row is made of the one before it and the finished table.
 use words::Factors;
+use words::widening::wide;
 ghost use mathlib.Core.Path.{_≡_};
 ghost use Prim.Native.Nat.{ℕ, suc, min, _+_, _*_, _≤_, _<_};
 ghost use lib.Dec.{eqb};
@@ -13,12 +14,6 @@ ghost use Rattle.engine.specs.Rounds.{Rewritten, Lowered, AtMost, Round,
 
 // The most nodes that a tree of generators of 320 letters together has.
 const NODES: usize = 321;
-
-fn wide(x: u16) -> usize
-    ensures { λ r. ⌜ r ≡ x ⌝ }
-{
-    x as usize
-}
 
 fn least(a: u16, b: u16) -> u16
     ensures { λ r. ⌜ r ≡ min a b ⌝ }

@@ -1,19 +1,10 @@
 // What the trial prints with: the call, its verdict, and what the lent slices hold afterwards.
 use engine::Verdict;
-use words::Refusal;
 ghost use mathlib.Core.Path.{_≡_};
-ghost use Prim.Native.Nat.{_+_, _^_, _≤_, _<_};
-
-// A word of at most twelve bytes, or its first four bytes and how many there are.
-fn word(bytes: &[u8]) {
-    if bytes.len() <= 12 {
-        io::write_all(1, bytes);
-    } else {
-        io::write_all(1, &bytes[..4]);
-        io::write_all(1, b"~");
-        io::print_decimal(1, bytes.len() as u64);
-    }
-}
+ghost use Prim.Native.Nat.{_+_, _^_, _<_};
+ghost use lib.Dec.{eqb};
+ghost use Rattle.words.specs.Bytes.{pick};
+ghost use Rattle.engine_trial.specs.Counting.{countOf};
 
 fn number(x: u16) {
     io::write_all(1, b" ");
@@ -42,21 +33,14 @@ fn list_ends(ends: &[u16]) {
 // The list's letters and ends, the target, and n.
 pub(crate) fn call(bytes: &[u8], ends: &[u16], target: &[u8], n: u16) {
     io::write_all(1, b"'");
-    word(bytes);
+    showing::word(bytes);
     io::write_all(1, b"'");
     list_ends(ends);
     io::write_all(1, b", '");
-    word(target);
+    showing::word(target);
     io::write_all(1, b"',");
     number(n);
     io::write_all(1, b": ");
-}
-
-fn refused(refusal: Refusal) {
-    io::write_all(1, b"refused ");
-    io::print_decimal(1, words::questions::number(refusal) as u64);
-    io::write_all(1, b" ");
-    io::print_decimal(1, words::questions::place(refusal) as u64);
 }
 
 pub(crate) fn verdict(answer: Verdict) {
@@ -68,14 +52,14 @@ pub(crate) fn verdict(answer: Verdict) {
         Verdict::None => {
             io::write_all(1, b"none");
         }
-        Verdict::Refused(refusal) => refused(refusal),
+        Verdict::Refused(refusal) => showing::refusal(refusal),
     }
 }
 
 // One more, where x has the value.
 fn one_more(count: usize, x: u16, value: u16) -> usize
     requires { ⌜ count + 1 < 2 ^ 64 ⌝ }
-    ensures { λ r. ⌜ r ≤ count + 1 ⌝ }
+    ensures { λ r. ⌜ r ≡ pick (eqb x value) (count + 1) count ⌝ }
 {
     if x == value {
         return count + 1;
@@ -84,7 +68,9 @@ fn one_more(count: usize, x: u16, value: u16) -> usize
 }
 
 // How many entries have the value.
-fn count_entries(entries: &[u16], value: u16) -> usize {
+fn count_entries(entries: &[u16], value: u16) -> usize
+    ensures { λ r. ⌜ r ≡ countOf value (now (entries .entry)) ⌝ }
+{
     let mut count = 0;
     let mut i = 0;
     while i < entries.len() {
@@ -117,7 +103,9 @@ fn factors(bytes: &[u8]) {
     }
 }
 
-fn count_bytes(bytes: &[u8], value: u16) -> usize {
+fn count_bytes(bytes: &[u8], value: u16) -> usize
+    ensures { λ r. ⌜ r ≡ countOf value (now (bytes .entry)) ⌝ }
+{
     let mut count = 0;
     let mut i = 0;
     while i < bytes.len() {

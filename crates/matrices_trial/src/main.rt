@@ -17,7 +17,7 @@ fn word(letters: &[u8]) {
 fn answer(letters: &[u8]) {
     match matrices::word_to_matrix(letters) {
         Turned::Into(m) => printing::matrix(m),
-        Turned::Refused(refusal) => printing::refused(refusal),
+        Turned::Refused(refusal) => showing::refusal(refusal),
     }
     io::write_all(1, b"\n");
 }
@@ -27,7 +27,7 @@ fn written(answer: Written) {
         Written::Length(letters) => {
             io::print_decimal(1, letters.0 as u64);
         }
-        Written::Refused(refusal) => printing::refused(refusal),
+        Written::Refused(refusal) => showing::refusal(refusal),
     }
 }
 

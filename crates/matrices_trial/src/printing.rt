@@ -1,6 +1,5 @@
-// What the trial prints with: numbers with their sign, a matrix, a refusal as document 01's number and place.
+// What the trial prints with: numbers with their sign, and a matrix.
 use matrices::Matrix;
-use words::Refusal;
 ghost use mathlib.Core.Path.{_≡_};
 ghost use lib.IntN.{natAbs};
 
@@ -29,11 +28,4 @@ pub(crate) fn matrix(m: Matrix) {
     signed(m.c);
     io::write_all(1, b" ");
     signed(m.d);
-}
-
-pub(crate) fn refused(refusal: Refusal) {
-    io::write_all(1, b"refused ");
-    io::print_decimal(1, words::questions::number(refusal) as u64);
-    io::write_all(1, b" ");
-    io::print_decimal(1, words::questions::place(refusal) as u64);
 }

@@ -1,16 +1,11 @@
 // Nodes of the tree and pairs of them. A node is a number below `width`; any other number stands for no node.
+use words::widening::wide;
 ghost use mathlib.Core.Path.{_≡_};
 ghost use Prim.Native.Nat.{_+_, _*_, _≤_, _<_};
 ghost use lib.ListN.{length};
 ghost use Rattle.trees.specs.Tree.{at};
 ghost use Rattle.tables.specs.Rules.{place};
 ghost use Rattle.tables.specs.Nodes.{Finds, Noted, Front};
-
-fn wide(x: u16) -> usize
-    ensures { λ r. ⌜ r ≡ x ⌝ }
-{
-    x as usize
-}
 
 // The number at p of a slice of node numbers.
 pub(crate) fn node(nodes: &[u16], p: usize) -> usize

@@ -1,6 +1,5 @@
 // Worked values and edges of the calls on words, one line each: the call, the answer, and the first bytes of the lent slice, which
 // was full of dots. What it must print stands in `stdout`.
-use words::Refusal;
 use words::Tested;
 use words::Written;
 ghost use mathlib.Core.Path.{_≡_};
@@ -10,13 +9,7 @@ ghost use Rattle.words.specs.Word.{nf, inverse};
 ghost use Rattle.words.specs.Bytes.{word as wordOf, bytes};
 ghost use Rattle.words.specs.Questions.{ofWord};
 ghost use Rattle.words.specs.Slices.{written};
-
-fn print_refusal(refusal: Refusal) {
-    io::write_all(1, b"refused ");
-    io::print_decimal(1, words::questions::number(refusal) as u64);
-    io::write_all(1, b" ");
-    io::print_decimal(1, words::questions::place(refusal) as u64);
-}
+ghost use Rattle.words_trial.specs.Period.{byteAt, withS};
 
 fn print_written(answer: Written) {
     match answer {
@@ -24,29 +17,18 @@ fn print_written(answer: Written) {
             io::write_all(1, b"length ");
             io::print_decimal(1, letters.0 as u64);
         }
-        Written::Refused(refusal) => print_refusal(refusal),
-    }
-}
-
-// A word of at most twelve bytes, or its first four bytes and how many there are.
-fn print_bytes(bytes: &[u8]) {
-    if bytes.len() <= 12 {
-        io::write_all(1, bytes);
-    } else {
-        io::write_all(1, &bytes[..4]);
-        io::write_all(1, b"~");
-        io::print_decimal(1, bytes.len() as u64);
+        Written::Refused(refusal) => showing::refusal(refusal),
     }
 }
 
 fn print_line(call: &[u8], word: &[u8], answer: Written, out: &[u8]) {
     io::write_all(1, call);
     io::write_all(1, b" '");
-    print_bytes(word);
+    showing::word(word);
     io::write_all(1, b"': ");
     print_written(answer);
     io::write_all(1, b", '");
-    print_bytes(out);
+    showing::word(out);
     io::write_all(1, b"'\n");
 }
 
@@ -66,7 +48,7 @@ fn invert(word: &[u8], out: &mut [u8])
 
 fn is_normal(word: &[u8]) {
     io::write_all(1, b"is_normal '");
-    print_bytes(word);
+    showing::word(word);
     io::write_all(1, b"': ");
     match words::is_normal(word) {
         Tested::Normal => {
@@ -75,7 +57,7 @@ fn is_normal(word: &[u8]) {
         Tested::NotNormal => {
             io::write_all(1, b"no");
         }
-        Tested::Refused(refusal) => print_refusal(refusal),
+        Tested::Refused(refusal) => showing::refusal(refusal),
     }
     io::write_all(1, b"\n");
 }
@@ -98,21 +80,26 @@ fn long(word: &[u8]) {
     is_normal(word);
 }
 
-// Puts S at a place whose remainder by `period` is not 0.
-fn put_s_at(word: &mut [u8], i: usize, period: usize) {
-    if i < word.len() {
-        if 0 < period {
-            if 0 < i % period {
-                word[i] = 83;
-            }
-        }
+// What stands at place i, where b stood: S, unless the period divides i. A period of 0 puts S nowhere.
+fn byte_at(b: u8, i: usize, period: usize) -> u8
+    ensures { λ r. ⌜ r ≡ byteAt period i b ⌝ }
+{
+    if period == 0 {
+        return b;
     }
+    if i % period == 0 {
+        return b;
+    }
+    83
 }
 
-fn put_s(word: &mut [u8], period: usize) {
+// Puts S at every place that is no multiple of the period.
+fn put_s(word: &mut [u8], period: usize)
+    ensures { λ _. ⌜ now (word .exit) ≡ withS period 0 (now (word .entry)) ⌝ }
+{
     let mut i = 0;
     while i < word.len() {
-        put_s_at(word, i, period);
+        word[i] = byte_at(word[i], i, period);
         i += 1;
     }
 }

@@ -5,27 +5,19 @@ use native.Mathlib.Omega.{arith}
 use borrow.Author.Needs.{needs}
 use Rattle.engine_trial.proofs.printing.first_factors.Statement.{statement}
 use Rattle.engine_trial.proofs.printing.first_factors.Tie as tie
-use Rattle.engine_trial.proofs.printing.first_factors.Reads as reads
-use Rattle.engine_trial.proofs.printing.first_factors.Lts as lts
-use Rattle.engine_trial.proofs.printing.factors.Reads as factors-reads
 
--- src/printing.rt:130:9
 factors-requires : tie.Need-factors-requires
 factors-requires c κs = search needs
 
--- src/printing.rt:132:17
 slice-aggregate-factors : tie.Need-slice-aggregate-factors
 slice-aggregate-factors c = sym (length-take-le 6 (c .before .before .before .args .bytes .now) (omega arith))
 
--- src/printing.rt:132:9
 factors-requires-2 : tie.Need-factors-requires-2
 factors-requires-2 c κs = search needs
 
--- src/printing.rt:128:1
 returns : tie.Need-returns
 returns c = search needs
 
--- src/printing.rt:128:1
 returns-2 : tie.Need-returns-2
 returns-2 c = search needs
 

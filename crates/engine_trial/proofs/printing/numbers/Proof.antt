@@ -2,12 +2,8 @@
 use Prim.Native.Nat.{_-_, _≤_}
 use lib.ListN.{length}
 use borrow.Author.Needs.{needs}
-use native.Mathlib.Omega.{arith}
 use Rattle.engine_trial.proofs.printing.numbers.Statement.{statement}
 use Rattle.engine_trial.proofs.printing.numbers.Tie as tie
-use Rattle.engine_trial.proofs.printing.numbers.Reads as reads
-use Rattle.engine_trial.proofs.printing.numbers.Lts as lts
-use Rattle.engine_trial.proofs.printing.number.Reads as number-reads
 
 abbrev Inv-loop : tie.InvT-loop
 Inv-loop ends i₀ i = i ≤ length ends
@@ -15,35 +11,27 @@ Inv-loop ends i₀ i = i ≤ length ends
 abbrev μ-loop : tie.MeasureT-loop
 μ-loop ends i₀ i = length ends - i
 
--- src/printing.rt:24:5
 loop-holds : tie.Need-loop-holds Inv-loop μ-loop
 loop-holds c = search needs
 
--- src/printing.rt:25:16
 mul-number : tie.Need-mul-number Inv-loop μ-loop
 mul-number c = search needs
 
--- src/printing.rt:25:16
 shared-slice-read-number : tie.Need-shared-slice-read-number Inv-loop μ-loop
 shared-slice-read-number c = search needs
 
--- src/printing.rt:25:9
 number-requires : tie.Need-number-requires Inv-loop μ-loop
 number-requires c κs = search needs
 
--- src/printing.rt:26:9
 add-i : tie.Need-add-i Inv-loop μ-loop
 add-i c = search needs
 
--- src/printing.rt:24:5
 loop-less : tie.Need-loop-less Inv-loop μ-loop
 loop-less c = search needs
 
--- src/printing.rt:24:5
 loop-again : tie.Need-loop-again Inv-loop μ-loop
 loop-again c = search needs
 
--- src/printing.rt:22:1
 returns : tie.Need-returns Inv-loop μ-loop
 returns c = search needs
 

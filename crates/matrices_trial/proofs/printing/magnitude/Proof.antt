@@ -14,8 +14,6 @@ use Rattle.matrices.proofs.Signed.{reading, Computes, computes, negation, negat
 use borrow.Author.Needs.{needs}
 use Rattle.matrices_trial.proofs.printing.magnitude.Statement.{statement}
 use Rattle.matrices_trial.proofs.printing.magnitude.Tie as tie
-use Rattle.matrices_trial.proofs.printing.magnitude.Reads as reads
-use Rattle.matrices_trial.proofs.printing.magnitude.Lts as lts
 
 -- ---- one more than a negative number
 
@@ -66,43 +64,36 @@ after c =
     let e = c .before in
     next (e .args .x) (e .fits .x) (negative-test (toZ-ofZ w64 (e .args .x) (e .fits .x)) (c .if1 .taken))
 
--- src/printing.rt:13:19
 add-result : tie.Need-add-result
 add-result c = after c .sum .within
 
--- src/printing.rt:13:17
 sub-result : tie.Need-sub-result
 sub-result c = negated-next (c .before .args .x) (after c) .within
 
--- src/printing.rt:13:16
 cast-result : tie.Need-cast-result
 cast-result c =
     let x = c .before .args .x in
     let h = after c in
     castable (negated-next x h .value) (h .sign) (omega (arith, natAbs-negℤ (x +ℤ pos 1), h .small))
 
--- src/printing.rt:13:16
 add-result-2 : tie.Need-add-result-2
 add-result-2 c =
     let x = c .before .args .x in
     let h = after c in
     omega (arith, ap natAbs (negated-next x h .value), natAbs-negℤ (x +ℤ pos 1), h .small)
 
--- src/printing.rt:13:9
 returns : tie.Need-returns
 returns c =
     let x = c .before .args .x in
     let h = after c in
     omega (arith, ap natAbs (negated-next x h .value), natAbs-negℤ (x +ℤ pos 1), h .size)
 
--- src/printing.rt:15:5
 cast-result-2 : tie.Need-cast-result-2
 cast-result-2 c =
     let e = c .before in
     let n = negative-test (toZ-ofZ w64 (e .args .x) (e .fits .x)) (c .if1 .left) in
     castable (toZ-ofZ w64 (e .args .x) (e .fits .x)) n (small-unless-negative (e .args .x) (e .fits .x) n)
 
--- src/printing.rt:9:1
 returns-2 : tie.Need-returns-2
 returns-2 c = search needs
 
