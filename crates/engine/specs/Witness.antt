@@ -6,7 +6,7 @@ use Prim.Native.Nat.{ℕ, suc, _*_, _≤_, _<_}
 use lib.ListN.{length, take, drop}
 use Rattle.words.specs.Word.{Word, Normal}
 use Rattle.words.specs.Bytes.{word}
-use Rattle.products.specs.Product.{Series, Reaches, measure}
+use Rattle.products.specs.Product.{Series, Reaches}
 use Rattle.products.specs.State.{AllNormal, LeastLead}
 use Rattle.trees.specs.Tree.{at, wordAt, Tree}
 use Rattle.tables.specs.Rules.{place}

@@ -6,8 +6,8 @@ pub mod reader;
 
 ghost use mathlib.Core.Path.{_≡_};
 ghost use lib.ListN.{drop};
-ghost use Rattle.fields.specs.Field.{numberField, signedField, lettersField};
-ghost use Rattle.fields.specs.Answers.{byteOf, shortOf, signedOf, SpanOf};
+ghost use Rattle.fields.specs.Field.{signedField, lettersField};
+ghost use Rattle.fields.specs.Answers.{signedOf, SpanOf};
 
 pub enum Byte {
     Whole(u8),

@@ -1,5 +1,4 @@
 -- How the calls' answers are told to a caller in another language: by two numbers. Assumes nothing: these are definitions.
-use mathlib.Core.Path.{_≡_}
 use mathlib.Core.List.{List, [], _∷_}
 use Prim.Native.Nat.{ℕ}
 use lib.IntN.{ℤ}

@@ -36,11 +36,17 @@ pub enum Turned {
     Refused(Refusal),
 }
 
+// The letters that question 8 lets pass.
+const LONGEST: usize = 4096;
+
+// Room for 80 letters and one part more, by which a longer normal form is known.
+const FORM: usize = 82;
+
 // The matrix of `word`. The reduction puts questions 8 and 10; its own question 14 is then answered yes, since `form` has 4,096 bytes.
 pub fn word_to_matrix(word: &[u8]) -> Turned
     ensures { λ r. ⌜ TurnsWord (now (word .entry)) r ⌝ }
 {
-    let mut form = [0u8; 4096];
+    let mut form = [0u8; LONGEST];
     match words::reduce(word, &mut form) {
         Written::Refused(refusal) => Turned::Refused(refusal),
         Written::Length(letters) => {
@@ -74,7 +80,7 @@ pub fn matrix_to_word(m: Matrix, out: &mut [u8]) -> Written
     match questions::of_entries(m) {
         Asked::Refused(refusal) => Written::Refused(refusal),
         Asked::Passed => {
-            let mut form = [0u8; 82];
+            let mut form = [0u8; FORM];
             let at = peeling::peel_all(m, &mut form);
             write_out(&form[at..], out)
         }

@@ -5,9 +5,8 @@
 use mathlib.Core.Path.{_≡_, refl}
 use mathlib.Core.Logic.{_≢_}
 use mathlib.Core.List.{List, [], _∷_, _++_}
-use Prim.Native.Nat.{ℕ, _+_, _≤_, _<_}
+use Prim.Native.Nat.{ℕ, _+_, _≤_}
 use native.Mathlib.Omega.{arith}
-use lib.ListN.{length}
 use Rattle.words.specs.Word.{Letter, R, S, Word}
 use Rattle.products.specs.Product.{generator, Factor, Series}
 use Rattle.products.proofs.States.{NotS, State, Leads, Ends, Step, A, B, C, D, E, F, state-tail, ends-state, ends-not-empty, leads-ends-nothing}

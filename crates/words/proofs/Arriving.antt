@@ -2,12 +2,12 @@
 -- come, and in what order: that is the parameter `rest`. Assumes nothing.
 use mathlib.Core.Path.{_≡_, refl, sym, ap, subst, _∙_}
 use mathlib.Core.List.{List, [], _∷_, _++_, map-append}
-use Prim.Native.Nat.{ℕ, zero, suc, _+_, _-_, _≤_, _<_, zero-le}
+use Prim.Native.Nat.{ℕ, suc, _+_, _-_, _≤_, _<_, zero-le}
 use native.Mathlib.Numerals.{add-one}
 use native.Mathlib.Omega.{arith}
 use lib.ListN.{length, take, drop, getD, length-append}
 use lib.Seq.{drop-cons, take-suc}
-use Rattle.words.specs.Word.{Letter, Word, arrived, inverse, inverseLetter}
+use Rattle.words.specs.Word.{Word, arrived, inverse, inverseLetter}
 use Rattle.words.specs.Bytes.{letter, word}
 use Rattle.words.specs.Arrival.{Held, SomeHeld, Arrives}
 use Rattle.words.proofs.NormalForm.{arrived-append}

@@ -7,7 +7,6 @@ use native.Mathlib.Omega.{arith}
 use lib.Dec.{leb}
 use lib.ListN.{length}
 use borrow.Author.Tests.{leb-true}
-use Rattle.words.specs.Bytes.{pick}
 use Rattle.words.specs.Questions.{asks, firstNo, question8, question10, question14, ofLetters, ofWord}
 use Rattle.words.specs.declared.Refusal.{Refusal}
 use Rattle.words.specs.declared.Refusal.the-variants.{TooManyLetters, OutputTooShort}

@@ -4,13 +4,13 @@
 --     inverse-append                the inverse of two words, one behind the other
 --     inverse-equal                 equal words have equal inverses
 -- Assumes nothing.
-use mathlib.Core.Path.{_≡_, refl, sym, ap, _∙_}
-use mathlib.Core.List.{List, [], _∷_, _++_, append-assoc, append-nil}
+use mathlib.Core.Path.{_≡_, sym, ap, _∙_}
+use mathlib.Core.List.{[], _∷_, _++_, append-assoc, append-nil}
 use Prim.Native.Nat.{_*_, _≤_}
 use native.Mathlib.Omega.{arith}
 use lib.ListN.{length, length-append}
 use Rattle.words.specs.Word.{Letter, R, S, Word, Equal, rr, sss, none, back, then, inverse, inverseLetter}
-use Rattle.words.proofs.NormalForm.{equal-path, equal-inside, equal-behind, equal-before, equal-append}
+use Rattle.words.proofs.NormalForm.{equal-path, equal-inside, equal-behind, equal-before}
 
 pub length-inverse-letter : (a : Letter) → length (inverseLetter a) ≤ 2
 length-inverse-letter R = omega arith

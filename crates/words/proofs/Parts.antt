@@ -10,7 +10,7 @@ use Rattle.words.specs.Word.{Letter, R, S, Word, Normal}
 use Rattle.words.specs.Bytes.{letter, word}
 use Rattle.words.specs.Parts.{Decides, NotFirst, FromRPart, FromSPart}
 use Rattle.words.proofs.Bytes.{letter-r, letter-s}
-use Rattle.words.proofs.Reduced.{Reduced, normal-of-reduced, reduced-of-normal, normal-tail}
+use Rattle.words.proofs.Reduced.{normal-of-reduced, reduced-of-normal, normal-tail}
 
 -- ---- the word from a place on, by the byte there
 

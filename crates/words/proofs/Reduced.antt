@@ -1,8 +1,8 @@
 -- `Normal` by clauses: a normal word as a type that computes at its first letters. What is said of a part of a normal word, and
 -- of one read back to front, is said of `Normal`, where it is plain; what goes by letters is said of `Reduced`.
 -- Assumes nothing.
-use mathlib.Core.Path.{_≡_, refl, sym, ap, subst, _∙_}
-use mathlib.Core.List.{List, [], _∷_, _++_, reverse, append-assoc, reverse-append, reverse-cons, reverse-reverse}
+use mathlib.Core.Path.{refl, sym, ap, subst, _∙_}
+use mathlib.Core.List.{[], _∷_, _++_, reverse, append-assoc, reverse-append, reverse-reverse}
 use Rattle.words.specs.Word.{Letter, R, S, Word, Holds, RR, SSS, Normal}
 
 abbrev pub Reduced : Word → Type 0

@@ -1,7 +1,7 @@
 -- The questions at the door. Document 01: "Each call puts, in rising order, those questions that concern its inputs. The first no is
 -- returned as its number with a place". Here are the numbers and places of every refusal, and the questions that concern words: 8, 10, 12 and
 -- 14, of which 12 and 14 concern matrices and witnesses too. Assumes nothing: these are definitions.
-use mathlib.Core.Bool.{Bool, true, false}
+use mathlib.Core.Bool.{Bool, true}
 use mathlib.Core.List.{List, [], _∷_}
 use Prim.Native.Nat.{ℕ, suc}
 use lib.Dec.{eqb, leb}

@@ -75,6 +75,12 @@ fn write_out(stack: &[u8], len: usize, out: &mut [u8]) -> Written
 // The letters that a short stack holds. Most words are short, and a long stack's zeros cost more than their reduction.
 const FEW: usize = 128;
 
+// The letters that question 8 lets pass.
+const LONGEST: usize = 4096;
+
+// Inversion has two letters arrive for each S.
+const INVERTED: usize = 8192;
+
 // Writes the normal form of `word` to the front of `out`, by a stack that is lent for its letters.
 fn reduce_on(stack: &mut [u8], word: &[u8], out: &mut [u8]) -> Written
     requires { ⌜ length (now word) ≤ length (now stack) ⌝ }
@@ -98,7 +104,7 @@ pub fn reduce(word: &[u8], out: &mut [u8]) -> Written
                 let mut stack = [0u8; FEW];
                 return reduce_on(&mut stack, word, out);
             }
-            let mut stack = [0u8; 4096];
+            let mut stack = [0u8; LONGEST];
             reduce_on(&mut stack, word, out)
         }
     }
@@ -111,7 +117,7 @@ pub fn invert(word: &[u8], out: &mut [u8]) -> Written
     match questions::of_word(word, 2 * word.len(), out.len()) {
         Asked::Refused(refusal) => Written::Refused(refusal),
         Asked::Passed => {
-            let mut stack = [0u8; 8192];
+            let mut stack = [0u8; INVERTED];
             let top = arrival::arrive_inverse(&mut stack, word);
             write_out(&stack, top.len, out)
         }

@@ -1,16 +1,16 @@
 -- A right `none` for a small bound, by trying every series: antt computes the test, and one law turns it into the statement.
 -- Assumes nothing.
 use mathlib.Core.Bool.{Bool, true, false, not}
-use mathlib.Core.Path.{_≡_, refl, sym, ap, subst, _∙_}
+use mathlib.Core.Path.{_≡_, refl, sym, ap, _∙_}
 use mathlib.Core.List.{List, [], _∷_, _++_, append-assoc, append-nil}
 use Prim.Native.Nat.{ℕ, zero, suc, _≤_, _<_}
 use native.Mathlib.Nat.{le-of-suc-le-suc, not-suc-le-zero}
 use native.Mathlib.Omega.{arith}
 use lib.ListN.{length, getD}
-use Rattle.words.specs.Word.{Letter, R, S, Word, Equal, nf}
+use Rattle.words.specs.Word.{R, S, Word, nf}
 use Rattle.words.specs.Bytes.{pick}
 use Rattle.words.proofs.NormalForm.{nf-of-equal}
-use Rattle.products.specs.Product.{Series, letters, Reaches, Rival, NoneRight}
+use Rattle.products.specs.Product.{Series, letters, NoneRight}
 
 -- two words are the same, letter by letter
 abbrev pub same : Word → Word → Bool

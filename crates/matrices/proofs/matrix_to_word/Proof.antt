@@ -14,11 +14,6 @@ use native.Mathlib.Omega.{arith}
 use borrow.Author.Needs.{needs}
 use Rattle.matrices.proofs.matrix_to_word.Statement.{statement}
 use Rattle.matrices.proofs.matrix_to_word.Tie as tie
-use Rattle.matrices.proofs.matrix_to_word.Reads as reads
-use Rattle.matrices.proofs.matrix_to_word.Lts as lts
-use Rattle.matrices.proofs.peeling.peel_all.Reads as peel-all-reads
-use Rattle.matrices.proofs.questions.of_entries.Reads as of-entries-reads
-use Rattle.matrices.proofs.write_out.Reads as write-out-reads
 
 of-entries-requires : tie.Need-of-entries-requires
 of-entries-requires c κs = search needs

@@ -18,10 +18,6 @@ use native.Mathlib.Omega.{arith}
 use borrow.Author.Needs.{needs}
 use Rattle.matrices.proofs.word_to_matrix.Statement.{statement}
 use Rattle.matrices.proofs.word_to_matrix.Tie as tie
-use Rattle.matrices.proofs.word_to_matrix.Reads as reads
-use Rattle.matrices.proofs.word_to_matrix.Lts as lts
-use Rattle.matrices.proofs.forming.of_normal_form.Reads as of-normal-form-reads
-use Rattle.words.proofs.reduce.Reads as reduce-reads
 
 -- the length that the reduction returned, and the word that it wrote
 short : (c : tie.After-letters) → c .letters .given .0 .0 .0 ≤ length (c .before .before .before .reduce .last .1 .0)

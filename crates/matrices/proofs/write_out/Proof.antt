@@ -13,8 +13,6 @@ use borrow.Author.Needs.{needs}
 use native.Mathlib.Omega.{arith}
 use Rattle.matrices.proofs.write_out.Statement.{statement}
 use Rattle.matrices.proofs.write_out.Tie as tie
-use Rattle.matrices.proofs.write_out.Reads as reads
-use Rattle.matrices.proofs.write_out.Lts as lts
 
 -- what the questions say is answered, and written
 said : (form before : List ℕ) {asked : Asked} → ofLength (length form) (length before) ≡ asked →

@@ -12,11 +12,6 @@ use native.Mathlib.Omega.{arith}
 use borrow.Author.Needs.{needs}
 use Rattle.words.proofs.invert.Statement.{statement}
 use Rattle.words.proofs.invert.Tie as tie
-use Rattle.words.proofs.invert.Reads as reads
-use Rattle.words.proofs.invert.Lts as lts
-use Rattle.words.proofs.arrival.arrive_inverse.Reads as arrive-inverse-reads
-use Rattle.words.proofs.questions.of_word.Reads as of-word-reads
-use Rattle.words.proofs.write_out.Reads as write-out-reads
 
 mul-of-word : tie.Need-mul-of-word
 mul-of-word c = search needs

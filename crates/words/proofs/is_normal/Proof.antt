@@ -7,14 +7,9 @@ use Rattle.words.specs.Parts.{Decides}
 use Rattle.words.specs.Calls.{TestedRight}
 use Rattle.words.specs.declared.Asked.{Asked}
 use Rattle.words.specs.declared.Tested.the-variants.{Normal as Tested·Normal, NotNormal, Refused as Tested·Refused}
-use native.Mathlib.Omega.{arith}
 use borrow.Author.Needs.{needs}
 use Rattle.words.proofs.is_normal.Statement.{statement}
 use Rattle.words.proofs.is_normal.Tie as tie
-use Rattle.words.proofs.is_normal.Reads as reads
-use Rattle.words.proofs.is_normal.Lts as lts
-use Rattle.words.proofs.normality.normal_from.Reads as normal-from-reads
-use Rattle.words.proofs.questions.of_letters.Reads as of-letters-reads
 
 of-letters-requires : tie.Need-of-letters-requires
 of-letters-requires c κs = search needs

@@ -8,8 +8,6 @@ use borrow.Author.Needs.{needs}
 use native.Mathlib.Omega.{arith}
 use Rattle.engine.proofs.zeroing.zero.Statement.{statement}
 use Rattle.engine.proofs.zeroing.zero.Tie as tie
-use Rattle.engine.proofs.zeroing.zero.Reads as reads
-use Rattle.engine.proofs.zeroing.zero.Lts as lts
 
 abbrev Inv-loop : tie.InvT-loop
 Inv-loop table₀ count i₀ table i = (i ≤ count) × (table ≡ replicate i 0 ++ drop i table₀) × (length table ≡ length table₀)
@@ -17,38 +15,30 @@ Inv-loop table₀ count i₀ table i = (i ≤ count) × (table ≡ replicate i 0
 abbrev μ-loop : tie.MeasureT-loop
 μ-loop table₀ count i₀ table i = count - i
 
--- src/zeroing.rt:13:5
 loop-holds : tie.Need-loop-holds Inv-loop μ-loop
 loop-holds c = search needs
 
--- src/zeroing.rt:14:9
 mul-table : tie.Need-mul-table Inv-loop μ-loop
 mul-table c = search needs
 
--- src/zeroing.rt:14:9
 slice-write-table : tie.Need-slice-write-table Inv-loop μ-loop
 slice-write-table c = search needs
 
--- src/zeroing.rt:15:9
 add-i : tie.Need-add-i Inv-loop μ-loop
 add-i c = search needs
 
--- src/zeroing.rt:13:5
 loop-less : tie.Need-loop-less Inv-loop μ-loop
 loop-less c = search needs
 
--- src/zeroing.rt:13:5
 loop-again : tie.Need-loop-again Inv-loop μ-loop
 loop-again c =
     let l = c .before .loop in
     let t = c .before .before .args .table .now in
     (omega arith, ap (λ (u : List ℕ). set u (l .i) 0) (l .inv .1) ∙ fill-more (l .i) 0 t (omega arith), length-set (l .table) (l .i) 0 ∙ l .inv .2)
 
--- src/zeroing.rt:8:1
 same-length : tie.Need-same-length Inv-loop μ-loop
 same-length c = search needs
 
--- src/zeroing.rt:8:1
 returns : tie.Need-returns Inv-loop μ-loop
 returns c =
     let l = c .before .loop in

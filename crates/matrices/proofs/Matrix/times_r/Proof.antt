@@ -6,22 +6,17 @@ use Rattle.matrices.specs.Entries.{matrix}
 use Rattle.matrices.proofs.Signed.{read, negation}
 use Rattle.matrices.proofs.Matrix.times_r.Statement.{statement}
 use Rattle.matrices.proofs.Matrix.times_r.Tie as tie
-use Rattle.matrices.proofs.Matrix.times_r.Reads as reads
-use Rattle.matrices.proofs.Matrix.times_r.Lts as lts
 
--- src/times_r.rt:17:16
 sub-t2 : tie.Need-sub-t2
 sub-t2 c =
     let m = c .before .before .args .self in
     negation (read (m .a) (omega arith)) (omega arith) .within
 
--- src/times_r.rt:19:16
 sub-t3 : tie.Need-sub-t3
 sub-t3 c =
     let m = c .before .before .before .before .args .self in
     negation (read (m .c) (omega arith)) (omega arith) .within
 
--- src/times_r.rt:11:5
 returns : tie.Need-returns
 returns c =
     let m = c .before .before .before .before .before .args .self in

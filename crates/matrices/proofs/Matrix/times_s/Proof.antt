@@ -6,34 +6,27 @@ use Rattle.matrices.specs.Entries.{matrix}
 use Rattle.matrices.proofs.Signed.{read, sum, negation}
 use Rattle.matrices.proofs.Matrix.times_s.Statement.{statement}
 use Rattle.matrices.proofs.Matrix.times_s.Tie as tie
-use Rattle.matrices.proofs.Matrix.times_s.Reads as reads
-use Rattle.matrices.proofs.Matrix.times_s.Lts as lts
 
--- src/times_s.rt:16:16
 add-t2 : tie.Need-add-t2
 add-t2 c =
     let m = c .before .before .args .self in
     sum (read (m .a) (omega arith)) (read (m .b) (omega arith)) (omega arith) .within
 
--- src/times_s.rt:17:16
 sub-t3 : tie.Need-sub-t3
 sub-t3 c =
     let m = c .before .before .before .before .args .self in
     negation (read (m .a) (omega arith)) (omega arith) .within
 
--- src/times_s.rt:18:16
 add-t4 : tie.Need-add-t4
 add-t4 c =
     let m = c .before .before .before .before .before .before .args .self in
     sum (read (m .c) (omega arith)) (read (m .d) (omega arith)) (omega arith) .within
 
--- src/times_s.rt:19:16
 sub-t5 : tie.Need-sub-t5
 sub-t5 c =
     let m = c .before .before .before .before .before .before .before .before .args .self in
     negation (read (m .c) (omega arith)) (omega arith) .within
 
--- src/times_s.rt:11:5
 returns : tie.Need-returns
 returns c =
     let m = c .before .before .before .before .before .before .before .before .args .self in

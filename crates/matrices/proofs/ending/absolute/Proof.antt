@@ -7,33 +7,26 @@ use Rattle.matrices.proofs.Signed.{read, negation, negative-test, casta
 use borrow.Author.Needs.{needs}
 use Rattle.matrices.proofs.ending.absolute.Statement.{statement}
 use Rattle.matrices.proofs.ending.absolute.Tie as tie
-use Rattle.matrices.proofs.ending.absolute.Reads as reads
-use Rattle.matrices.proofs.ending.absolute.Lts as lts
 
--- src/ending.rt:45:17
 sub-result : tie.Need-sub-result
 sub-result c = negation (read (c .before .args .x) (omega arith)) (omega arith) .within
 
--- src/ending.rt:45:16
 cast-result : tie.Need-cast-result
 cast-result c =
     let x = c .before .args .x in
     castable (negation (read x (omega arith)) (omega arith) .value) (negated-negative x (negative-test (read x (omega arith)) (c .if1 .taken)))
     (omega (arith, natAbs-negℤ x))
 
--- src/ending.rt:45:9
 returns : tie.Need-returns
 returns c =
     let x = c .before .args .x in
     ap natAbs (negation (read x (omega arith)) (omega arith) .value) ∙ natAbs-negℤ x
 
--- src/ending.rt:47:5
 cast-result-2 : tie.Need-cast-result-2
 cast-result-2 c =
     let x = c .before .args .x in
     castable (read x (omega arith)) (negative-test (read x (omega arith)) (c .if1 .left)) (omega arith)
 
--- src/ending.rt:40:1
 returns-2 : tie.Need-returns-2
 returns-2 c = search needs
 

@@ -7,19 +7,13 @@ use Rattle.matrices.proofs.Signed.{read}
 use borrow.Author.Needs.{needs}
 use Rattle.matrices.proofs.ending.at_least.Statement.{statement}
 use Rattle.matrices.proofs.ending.at_least.Tie as tie
-use Rattle.matrices.proofs.ending.at_least.Reads as reads
-use Rattle.matrices.proofs.ending.at_least.Lts as lts
-use Rattle.matrices.proofs.ending.absolute.Reads as absolute-reads
 
--- src/ending.rt:56:5
 absolute-requires : tie.Need-absolute-requires
 absolute-requires c κs = search needs
 
--- src/ending.rt:56:20
 absolute-requires-2 : tie.Need-absolute-requires-2
 absolute-requires-2 c κs = search needs
 
--- src/ending.rt:51:1
 returns : tie.Need-returns
 returns c =
     let a = c .before .before .args in

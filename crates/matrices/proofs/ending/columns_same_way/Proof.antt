@@ -8,19 +8,13 @@ use Rattle.matrices.proofs.Endings.{both, not-both}
 use borrow.Author.Needs.{needs}
 use Rattle.matrices.proofs.ending.columns_same_way.Statement.{statement}
 use Rattle.matrices.proofs.ending.columns_same_way.Tie as tie
-use Rattle.matrices.proofs.ending.columns_same_way.Reads as reads
-use Rattle.matrices.proofs.ending.columns_same_way.Lts as lts
-use Rattle.matrices.proofs.ending.same_way.Reads as same-way-reads
 
--- src/ending.rt:71:8
 same-way-requires : tie.Need-same-way-requires
 same-way-requires c κs = search needs
 
--- src/ending.rt:72:9
 same-way-requires-2 : tie.Need-same-way-requires-2
 same-way-requires-2 c κs = search needs
 
--- src/ending.rt:72:9
 returns : tie.Need-returns
 returns c =
     let m = c .before .before .before .before .before .before .before .args .m in
@@ -30,7 +24,6 @@ returns c =
     let k : SFits w64 (m .d) = search needs in
     both (of-readings sameWay f g (c .before .before .before .before .same-way .ensures) (c .before .before .before .if1 .taken)) (of-readings sameWay h k (c .same-way2 .ensures) refl)
 
--- src/ending.rt:68:1
 returns-2 : tie.Need-returns-2
 returns-2 c =
     let m = c .before .before .before .before .args .m in

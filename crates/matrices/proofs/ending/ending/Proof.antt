@@ -5,40 +5,28 @@ use Rattle.matrices.specs.Entries.{matrix}
 use borrow.Author.Needs.{needs}
 use Rattle.matrices.proofs.ending.ending.Statement.{statement}
 use Rattle.matrices.proofs.ending.ending.Tie as tie
-use Rattle.matrices.proofs.ending.ending.Reads as reads
-use Rattle.matrices.proofs.ending.ending.Lts as lts
-use Rattle.matrices.proofs.ending.columns_same_way.Reads as columns-same-way-reads
-use Rattle.matrices.proofs.ending.first_column_larger.Reads as first-column-larger-reads
-use Rattle.matrices.proofs.ending.is_unit.Reads as is-unit-reads
 
--- src/ending.rt:91:8
 is-unit-requires : tie.Need-is-unit-requires
 is-unit-requires c κs = search needs
 
--- src/ending.rt:92:9
 returns : tie.Need-returns
 returns c = sym (ending-is-nothing (matrix (c .before .before .args .m)) (sym (c .before .is-unit .ensures) ∙ c .if1 .taken))
 
--- src/ending.rt:94:8
 columns-same-way-requires : tie.Need-columns-same-way-requires
 columns-same-way-requires c κs = search needs
 
--- src/ending.rt:95:9
 returns-2 : tie.Need-returns-2
 returns-2 c =
     sym (ending-is-r (matrix (c .before .before .before .before .args .m)) (sym (c .before .before .before .is-unit .ensures) ∙ c .before .before .if1 .left) (sym (c .before .columns-same-way .ensures) ∙ c .if2 .taken))
 
--- src/ending.rt:97:8
 first-column-larger-requires : tie.Need-first-column-larger-requires
 first-column-larger-requires c κs = search needs
 
--- src/ending.rt:98:9
 returns-3 : tie.Need-returns-3
 returns-3 c =
     sym (ending-is-s (matrix (c .before .before .before .before .before .before .args .m)) (sym (c .before .before .before .before .before .is-unit .ensures) ∙ c .before .before .before .before .if1 .left) (sym (c .before .before .before .columns-same-way .ensures) ∙ c .before .before .if2 .left)
     (sym (c .before .first-column-larger .ensures) ∙ c .if3 .taken))
 
--- src/ending.rt:87:1
 returns-4 : tie.Need-returns-4
 returns-4 c =
     sym (ending-is-ss (matrix (c .before .before .before .before .before .before .args .m)) (sym (c .before .before .before .before .before .is-unit .ensures) ∙ c .before .before .before .before .if1 .left) (sym (c .before .before .before .columns-same-way .ensures) ∙ c .before .before .if2 .left)

@@ -6,30 +6,23 @@ use Rattle.matrices.proofs.Signed.{fits, read, of-readings}
 use Rattle.matrices.proofs.Endings.{both, not-both}
 use Rattle.matrices.proofs.ending.first_column_larger.Statement.{statement}
 use Rattle.matrices.proofs.ending.first_column_larger.Tie as tie
-use Rattle.matrices.proofs.ending.first_column_larger.Reads as reads
-use Rattle.matrices.proofs.ending.first_column_larger.Lts as lts
-use Rattle.matrices.proofs.ending.at_least.Reads as at-least-reads
 
--- src/ending.rt:81:8
 at-least-requires : tie.Need-at-least-requires
 at-least-requires c κs =
     let m = c .before .before .args .m in
     rw (read (m .a) (omega arith), read (m .b) (omega arith)) (omega arith, omega arith)
 
--- src/ending.rt:82:9
 at-least-requires-2 : tie.Need-at-least-requires-2
 at-least-requires-2 c κs =
     let m = c .before .before .before .before .before .before .args .m in
     rw (read (m .c) (omega arith), read (m .d) (omega arith)) (omega arith, omega arith)
 
--- src/ending.rt:82:9
 returns : tie.Need-returns
 returns c =
     let m = c .before .before .before .before .before .before .before .args .m in
     both (of-readings atLeast (fits (m .a) (omega arith)) (fits (m .b) (omega arith)) (c .before .before .before .before .at-least .ensures) (c .before .before .before .if1 .taken))
     (of-readings atLeast (fits (m .c) (omega arith)) (fits (m .d) (omega arith)) (c .at-least2 .ensures) refl)
 
--- src/ending.rt:77:1
 returns-2 : tie.Need-returns-2
 returns-2 c =
     let m = c .before .before .before .before .args .m in

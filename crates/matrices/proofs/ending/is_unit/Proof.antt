@@ -8,19 +8,13 @@ use Rattle.matrices.proofs.Endings.{both, not-both}
 use borrow.Author.Needs.{needs}
 use Rattle.matrices.proofs.ending.is_unit.Statement.{statement}
 use Rattle.matrices.proofs.ending.is_unit.Tie as tie
-use Rattle.matrices.proofs.ending.is_unit.Reads as reads
-use Rattle.matrices.proofs.ending.is_unit.Lts as lts
-use Rattle.matrices.proofs.ending.is_zero.Reads as is-zero-reads
 
--- src/ending.rt:62:8
 is-zero-requires : tie.Need-is-zero-requires
 is-zero-requires c κs = search needs
 
--- src/ending.rt:63:9
 is-zero-requires-2 : tie.Need-is-zero-requires-2
 is-zero-requires-2 c κs = search needs
 
--- src/ending.rt:63:9
 returns : tie.Need-returns
 returns c =
     let m = c .before .before .before .before .before .args .m in
@@ -28,7 +22,6 @@ returns c =
     let g : SFits w64 (m .c) = search needs in
     both (of-reading isZero f (c .before .before .before .is-zero .ensures) (c .before .before .if1 .taken)) (of-reading isZero g (c .is-zero2 .ensures) refl)
 
--- src/ending.rt:59:1
 returns-2 : tie.Need-returns-2
 returns-2 c =
     let m = c .before .before .before .args .m in

@@ -6,22 +6,17 @@ use Rattle.matrices.proofs.Signed.{negative-test, positive-test}
 use Rattle.matrices.proofs.Endings.{not-zero-negative, not-zero-positive, zero-neither}
 use Rattle.matrices.proofs.ending.is_zero.Statement.{statement}
 use Rattle.matrices.proofs.ending.is_zero.Tie as tie
-use Rattle.matrices.proofs.ending.is_zero.Reads as reads
-use Rattle.matrices.proofs.ending.is_zero.Lts as lts
 
--- src/ending.rt:13:9
 returns : tie.Need-returns
 returns c =
     let e = c .before in
     sym (not-zero-negative (e .args .x) (negative-test (toZ-ofZ w64 (e .args .x) (e .fits .x)) (c .if1 .taken)))
 
--- src/ending.rt:16:9
 returns-2 : tie.Need-returns-2
 returns-2 c =
     let e = c .before .before in
     sym (not-zero-positive (e .args .x) (positive-test (toZ-ofZ w64 (e .args .x) (e .fits .x)) (c .if2 .taken)))
 
--- src/ending.rt:9:1
 returns-3 : tie.Need-returns-3
 returns-3 c =
     let e = c .before .before in

@@ -9,8 +9,6 @@ use Rattle.unimodular.proofs.Rows.{negative, positive, sameWay}
 use Rattle.matrices.proofs.Signed.{reading, negative-test, positive-test}
 use Rattle.matrices.proofs.ending.same_way.Statement.{statement}
 use Rattle.matrices.proofs.ending.same_way.Tie as tie
-use Rattle.matrices.proofs.ending.same_way.Reads as reads
-use Rattle.matrices.proofs.ending.same_way.Lts as lts
 
 module _ (x y : ℤ) where
   first-negative : {t : Bool} → negative x ≡ true → positive y ≡ t → not t ≡ sameWay x y
@@ -30,27 +28,22 @@ module _ (c : tie.Start) where
   read-y : reading (c .args .y) ≡ c .args .y
   read-y = toZ-ofZ w64 (c .args .y) (c .fits .y)
 
--- src/ending.rt:27:13
 returns : tie.Need-returns
 returns c = first-negative (c .before .before .args .x) (c .before .before .args .y) (negative-test (read-x (c .before .before)) (c .before .if1 .taken)) (positive-test (read-y (c .before .before)) (c .if2 .taken))
 
--- src/ending.rt:29:9
 returns-2 : tie.Need-returns-2
 returns-2 c = first-negative (c .before .before .args .x) (c .before .before .args .y) (negative-test (read-x (c .before .before)) (c .before .if1 .taken)) (positive-test (read-y (c .before .before)) (c .if2 .left))
 
--- src/ending.rt:33:13
 returns-3 : tie.Need-returns-3
 returns-3 c =
     first-positive (c .before .before .before .args .x) (c .before .before .before .args .y) (negative-test (read-x (c .before .before .before)) (c .before .before .if1 .left)) (positive-test (read-x (c .before .before .before)) (c .before .if3 .taken))
     (negative-test (read-y (c .before .before .before)) (c .if4 .taken))
 
--- src/ending.rt:35:9
 returns-4 : tie.Need-returns-4
 returns-4 c =
     first-positive (c .before .before .before .args .x) (c .before .before .before .args .y) (negative-test (read-x (c .before .before .before)) (c .before .before .if1 .left)) (positive-test (read-x (c .before .before .before)) (c .before .if3 .taken))
     (negative-test (read-y (c .before .before .before)) (c .if4 .left))
 
--- src/ending.rt:22:1
 returns-5 : tie.Need-returns-5
 returns-5 c = first-neither (c .before .before .args .x) (c .before .before .args .y) (negative-test (read-x (c .before .before)) (c .before .if1 .left)) (positive-test (read-x (c .before .before)) (c .if3 .left))
 

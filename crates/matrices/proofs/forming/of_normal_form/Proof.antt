@@ -16,27 +16,19 @@ use native.Mathlib.Omega.{arith}
 use borrow.Author.Needs.{needs}
 use Rattle.matrices.proofs.forming.of_normal_form.Statement.{statement}
 use Rattle.matrices.proofs.forming.of_normal_form.Tie as tie
-use Rattle.matrices.proofs.forming.of_normal_form.Reads as reads
-use Rattle.matrices.proofs.forming.of_normal_form.Lts as lts
-use Rattle.matrices.proofs.forming.product.Reads as product-reads
-use Rattle.matrices.proofs.questions.of_range.Reads as of-range-reads
-use Rattle.matrices.proofs.sign.with_sign.Reads as with-sign-reads
 
 -- the matrix, with its sign
 form-matrix : (c : tie.After-with-sign) → matrix (c .with-sign .result) ≡ signed (matrixOf (wordOf (c .before .before .before .before .args .form .now)))
 form-matrix c = c .with-sign .ensures ∙ ap signed (c .before .product .ensures)
 
--- src/forming.rt:65:9
 returns : tie.Need-returns
 returns c =
     let w = c .before .before .args .form .now in
     sym (ap (λ (a : Asked). matrixOr a (signed (matrixOf (wordOf w)))) (form-too-long (wordOf w) (omega (arith, length-map w letter))))
 
--- src/forming.rt:67:29
 product-requires : tie.Need-product-requires
 product-requires c κs = search needs
 
--- src/forming.rt:67:9
 with-sign-requires : tie.Need-with-sign-requires
 with-sign-requires c κs =
     let e = c .before .before .before in
@@ -44,26 +36,21 @@ with-sign-requires c κs =
     subst (λ (m : Matrix). size m ≤ 2 ^ 44) (sym (c .product .ensures))
     (le-trans (size-reduced (wordOf w) (reduced-of-normal (wordOf w) (e .pre)) (omega (arith, length-map w letter))) (omega arith))
 
--- src/forming.rt:68:11
 of-range-requires : tie.Need-of-range-requires
 of-range-requires c κs = search needs
 
--- src/forming.rt:69:46
 enum-told : tie.Need-enum-told
 enum-told c = search needs
 
--- src/forming.rt:70:26
 enum-told-2 : tie.Need-enum-told-2
 enum-told-2 c = search needs
 
--- src/forming.rt:60:1
 returns-2 : tie.Need-returns-2
 returns-2 c =
     let w = c .before .before .before .before .before .before .before .args .form .now in
     refuses-form (wordOf w) (c .before .before .before .with-sign .result) (omega (arith, length-map w letter)) (form-matrix (c .before .before .before))
     (sym (c .before .before .of-range .ensures) ∙ c .enum-told .given .1)
 
--- src/forming.rt:60:1
 returns-3 : tie.Need-returns-3
 returns-3 c =
     let w = c .before .before .before .before .before .before .before .args .form .now in

@@ -13,10 +13,6 @@ use borrow.Author.Needs.{needs}
 use native.Mathlib.Omega.{arith}
 use Rattle.matrices.proofs.forming.product.Statement.{statement}
 use Rattle.matrices.proofs.forming.product.Tie as tie
-use Rattle.matrices.proofs.forming.product.Reads as reads
-use Rattle.matrices.proofs.forming.product.Lts as lts
-use Rattle.matrices.proofs.forming.letter_at.Reads as letter-at-reads
-use Rattle.matrices.proofs.forming.times_letter.Reads as times-letter-reads
 
 abbrev Inv-loop : tie.InvT-loop
 Inv-loop form m₀ i₀ m i = (i ≤ length form) × (matrix m ≡ matrixOf (take i (wordOf form)))
@@ -24,15 +20,12 @@ Inv-loop form m₀ i₀ m i = (i ≤ length form) × (matrix m ≡ matrixOf (tak
 abbrev μ-loop : tie.MeasureT-loop
 μ-loop form m₀ i₀ m i = length form - i
 
--- src/forming.rt:52:5
 loop-holds : tie.Need-loop-holds Inv-loop μ-loop
 loop-holds c = (omega arith, refl)
 
--- src/forming.rt:53:29
 letter-at-requires : tie.Need-letter-at-requires Inv-loop μ-loop
 letter-at-requires c κs = search needs
 
--- src/forming.rt:53:9
 times-letter-requires : tie.Need-times-letter-requires Inv-loop μ-loop
 times-letter-requires c κs =
     let l = c .before .before .loop in
@@ -40,15 +33,12 @@ times-letter-requires c κs =
     let w = e .args .form .now in
     subst (λ (n : Matrix). size n ≤ 2 ^ 44) (sym (l .inv .1)) (prefix-bound (wordOf w) (e .pre .0) (omega (arith, length-map w letter)) (l .i))
 
--- src/forming.rt:54:9
 add-i : tie.Need-add-i Inv-loop μ-loop
 add-i c = search needs
 
--- src/forming.rt:52:5
 loop-less : tie.Need-loop-less Inv-loop μ-loop
 loop-less c = search needs
 
--- src/forming.rt:52:5
 loop-again : tie.Need-loop-again Inv-loop μ-loop
 loop-again c =
     let l = c .before .before .before .loop in
@@ -59,7 +49,6 @@ loop-again c =
           ∙ product-more w (l .i) (omega arith),
     )
 
--- src/forming.rt:40:1
 returns : tie.Need-returns Inv-loop μ-loop
 returns c =
     let l = c .before .loop in

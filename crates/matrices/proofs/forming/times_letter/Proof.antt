@@ -7,24 +7,16 @@ use Rattle.matrices.specs.Entries.{matrix}
 use borrow.Author.Needs.{needs}
 use Rattle.matrices.proofs.forming.times_letter.Statement.{statement}
 use Rattle.matrices.proofs.forming.times_letter.Tie as tie
-use Rattle.matrices.proofs.forming.times_letter.Reads as reads
-use Rattle.matrices.proofs.forming.times_letter.Lts as lts
-use Rattle.matrices.proofs.Matrix.times_r.Reads as times-r-reads
-use Rattle.matrices.proofs.Matrix.times_s.Reads as times-s-reads
 
--- src/forming.rt:33:9
 times-r-requires : tie.Need-times-r-requires
 times-r-requires c κs = search needs
 
--- src/forming.rt:33:9
 returns : tie.Need-returns
 returns c = c .times-r .ensures ∙ ap (λ (x : Letter). times (matrix (c .before .before .args .m)) (matrixOfLetter x)) (sym (letter-r (c .before .before .args .byte) (c .before .if1 .taken)))
 
--- src/forming.rt:35:5
 times-s-requires : tie.Need-times-s-requires
 times-s-requires c κs = search needs
 
--- src/forming.rt:28:1
 returns-2 : tie.Need-returns-2
 returns-2 c = c .times-s .ensures ∙ ap (λ (x : Letter). times (matrix (c .before .before .args .m)) (matrixOfLetter x)) (sym (letter-s (c .before .before .args .byte) (c .before .if1 .left)))
 

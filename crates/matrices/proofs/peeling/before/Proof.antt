@@ -10,40 +10,29 @@ use native.Mathlib.Omega.{arith}
 use borrow.Author.Needs.{needs}
 use Rattle.matrices.proofs.peeling.before.Statement.{statement}
 use Rattle.matrices.proofs.peeling.before.Tie as tie
-use Rattle.matrices.proofs.peeling.before.Reads as reads
-use Rattle.matrices.proofs.peeling.before.Lts as lts
-use Rattle.matrices.proofs.Matrix.times_r.Reads as times-r-reads
-use Rattle.matrices.proofs.Matrix.times_s.Reads as times-s-reads
 
--- src/peeling.rt:47:14
 times-r-requires : tie.Need-times-r-requires
 times-r-requires c κs = search needs
 
--- src/peeling.rt:48:14
 times-s-requires : tie.Need-times-s-requires
 times-s-requires c κs = search needs
 
--- src/peeling.rt:48:14
 times-s-requires-2 : tie.Need-times-s-requires-2
 times-s-requires-2 c κs =
     let m = c .before .before .args .m in
     omega (arith, size-times-s (matrix m), ap size (c .times-s .ensures))
 
--- src/peeling.rt:49:14
 times-s-requires-3 : tie.Need-times-s-requires-3
 times-s-requires-3 c κs = search needs
 
--- src/peeling.rt:41:1
 returns : tie.Need-returns
 returns c = c .times-r .ensures ∙ sym (ap (λ (k : ℕ). before k (matrix (c .before .before .args .m))) (c .before .match .keys1))
 
--- src/peeling.rt:41:1
 returns-2 : tie.Need-returns-2
 returns-2 c =
     c .times-s2 .ensures ∙ ap (λ (n : Matrix). times n (matrixOfLetter S)) (c .before .times-s .ensures)
     ∙ sym (ap (λ (k : ℕ). before k (matrix (c .before .before .before .args .m))) (c .before .before .match .keys2))
 
--- src/peeling.rt:41:1
 returns-3 : tie.Need-returns-3
 returns-3 c =
     let start = c .before .before in

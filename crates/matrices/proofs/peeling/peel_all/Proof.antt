@@ -7,11 +7,6 @@ use Rattle.matrices.proofs.Parts.{Peeling, peeling-begins, peeling-more
 use native.Mathlib.Omega.{arith}
 use Rattle.matrices.proofs.peeling.peel_all.Statement.{statement}
 use Rattle.matrices.proofs.peeling.peel_all.Tie as tie
-use Rattle.matrices.proofs.peeling.peel_all.Reads as reads
-use Rattle.matrices.proofs.peeling.peel_all.Lts as lts
-use Rattle.matrices.proofs.ending.ending.Reads as ending-reads
-use Rattle.matrices.proofs.peeling.before.Reads as before-reads
-use Rattle.matrices.proofs.peeling.put_part.Reads as put-part-reads
 
 abbrev Inv-loop : tie.InvT-loop
 Inv-loop form₀ left₀ at₀ form left at = (length form ≡ length form₀) × (at ≤ length form) × Peeling (matrix left₀) (matrix left) form at
@@ -19,37 +14,29 @@ Inv-loop form₀ left₀ at₀ form left at = (length form ≡ length form₀) �
 abbrev μ-loop : tie.MeasureT-loop
 μ-loop form₀ left₀ at₀ form left at = at
 
--- src/peeling.rt:63:5
 loop-holds : tie.Need-loop-holds Inv-loop μ-loop
 loop-holds c =
     let e = c .before in
     (omega arith, omega arith, peeling-begins (matrix (e .args .m)) (e .args .form .now) _ (e .pre .0) (e .pre .1 .0) (omega arith))
 
--- src/peeling.rt:64:13
 ending-requires : tie.Need-ending-requires Inv-loop μ-loop
 ending-requires c κs = omega (arith, c .before .loop .inv .2 .not-large)
 
--- src/peeling.rt:66:13
 same-length : tie.Need-same-length Inv-loop μ-loop
 same-length c = c .before .before .before .loop .inv .0
 
--- src/peeling.rt:66:13
 returns : tie.Need-returns Inv-loop μ-loop
 returns c = peeling-ends (c .before .before .before .loop .inv .2) (sym (c .before .ending .ensures) ∙ c .if1 .taken) (c .before .before .loop-test .taken) (c .before .before .before .loop .inv .1)
 
--- src/peeling.rt:68:9
 put-part-requires : tie.Need-put-part-requires Inv-loop μ-loop
 put-part-requires c κs = (omega (arith, c .before .if1 .left), (c .before .before .before .loop-test .taken, c .before .before .before .before .loop .inv .1))
 
--- src/peeling.rt:69:9
 before-requires : tie.Need-before-requires Inv-loop μ-loop
 before-requires c κs = (omega (arith, c .before .before .before .before .if1 .left), c .before .before .before .before .before .before .before .loop .inv .2 .not-large)
 
--- src/peeling.rt:63:5
 loop-less : tie.Need-loop-less Inv-loop μ-loop
 loop-less c = omega (arith, c .before .before .before .put-part .ensures .0, part-not-empty (c .before .before .before .before .before .before .ending .result) (omega (arith, c .before .before .before .before .before .if1 .left)))
 
--- src/peeling.rt:63:5
 loop-again : tie.Need-loop-again Inv-loop μ-loop
 loop-again c =
     let l = c .before .before .before .before .before .before .before .before .loop in
@@ -59,11 +46,9 @@ loop-again c =
       peeling-more (l .inv .2) (p .last .0) (p .result) (c .before .before .before .before .before .before .ending .ensures) (c .before2 .ensures) (p .ensures .1),
     )
 
--- src/peeling.rt:55:1
 same-length-2 : tie.Need-same-length-2 Inv-loop μ-loop
 same-length-2 c = c .before .loop .inv .0
 
--- src/peeling.rt:55:1
 returns-2 : tie.Need-returns-2 Inv-loop μ-loop
 returns-2 c =
     let l = c .before .loop in

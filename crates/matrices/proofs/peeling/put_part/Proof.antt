@@ -9,31 +9,22 @@ use native.Mathlib.Omega.{arith}
 use borrow.Author.Needs.{needs}
 use Rattle.matrices.proofs.peeling.put_part.Statement.{statement}
 use Rattle.matrices.proofs.peeling.put_part.Tie as tie
-use Rattle.matrices.proofs.peeling.put_part.Reads as reads
-use Rattle.matrices.proofs.peeling.put_part.Lts as lts
-use Rattle.matrices.proofs.peeling.put.Reads as put-reads
 
--- src/peeling.rt:31:14
 put-requires : tie.Need-put-requires
 put-requires c κs = search needs
 
--- src/peeling.rt:32:14
 put-requires-2 : tie.Need-put-requires-2
 put-requires-2 c κs = search needs
 
--- src/peeling.rt:34:17
 put-requires-3 : tie.Need-put-requires-3
 put-requires-3 c κs = search needs
 
--- src/peeling.rt:35:13
 put-requires-4 : tie.Need-put-requires-4
 put-requires-4 c κs = search needs
 
--- src/peeling.rt:25:1
 same-length : tie.Need-same-length
 same-length c = search needs
 
--- src/peeling.rt:25:1
 returns : tie.Need-returns
 returns c =
     let a = c .before .before .before .before .before .before .args in
@@ -41,11 +32,9 @@ returns c =
     let e : part (a .ending) ≡ R ∷ [] = ap part (c .before .before .before .before .match .keys1) in
     (rw e (p .0), rw e (p .1))
 
--- src/peeling.rt:25:1
 same-length-2 : tie.Need-same-length-2
 same-length-2 c = search needs
 
--- src/peeling.rt:25:1
 returns-2 : tie.Need-returns-2
 returns-2 c =
     let a = c .before .before .before .before .before .before .args in
@@ -53,11 +42,9 @@ returns-2 c =
     let e : part (a .ending) ≡ S ∷ [] = ap part (c .before .before .before .before .match .keys2) in
     (rw e (p .0), rw e (p .1))
 
--- src/peeling.rt:25:1
 same-length-3 : tie.Need-same-length-3
 same-length-3 c = search needs
 
--- src/peeling.rt:25:1
 returns-3 : tie.Need-returns-3
 returns-3 c =
     let start = c .before .before .before .before .before .before .before .before .before .before in

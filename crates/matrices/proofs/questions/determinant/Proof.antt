@@ -1,6 +1,5 @@
 -- Two products of entries in range, and their difference, fit. Assumes nothing.
 use mathlib.Core.Path.{_≡_}
-use Prim.Native.Nat.{_*_}
 use native.Mathlib.Omega.{arith}
 use lib.IntN.{_-ℤ_, _*ℤ_}
 use Rattle.unimodular.specs.Matrix.{Matrix, determinant}
@@ -12,8 +11,6 @@ use Rattle.matrices.proofs.Signed.{reading, Computes, read, product, di
 use Rattle.matrices.proofs.Range.{Small, small-of-passed, product-small}
 use Rattle.matrices.proofs.questions.determinant.Statement.{statement}
 use Rattle.matrices.proofs.questions.determinant.Tie as tie
-use Rattle.matrices.proofs.questions.determinant.Reads as reads
-use Rattle.matrices.proofs.questions.determinant.Lts as lts
 
 module _ (m : Matrix) (e : question5 m ≡ Passed) where
   small : Small m
@@ -35,19 +32,15 @@ module _ (m : Matrix) (e : question5 m ≡ Passed) where
       difference (ad .value) (bc .value)
       (omega (arith, natAbs-*ℤ (m .a) (m .d), natAbs-*ℤ (m .b) (m .c), product-small (m .a) (m .d) (s .a-small) (s .d-small), product-small (m .b) (m .c) (s .b-small) (s .c-small)))
 
--- src/questions.rt:48:5
 mul-result : tie.Need-mul-result
 mul-result c = ad (matrix (c .before .before .args .m)) (c .before .before .pre) .within
 
--- src/questions.rt:48:17
 mul-result-2 : tie.Need-mul-result-2
 mul-result-2 c = bc (matrix (c .before .before .before .before .args .m)) (c .before .before .before .before .pre) .within
 
--- src/questions.rt:48:5
 sub-result : tie.Need-sub-result
 sub-result c = ad-bc (matrix (c .before .before .before .before .args .m)) (c .before .before .before .before .pre) .within
 
--- src/questions.rt:44:1
 returns : tie.Need-returns
 returns c = ad-bc (matrix (c .before .before .before .before .args .m)) (c .before .before .before .before .pre) .value
 

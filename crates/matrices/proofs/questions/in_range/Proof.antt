@@ -5,22 +5,17 @@ use mir.ValLaws.{toZ-ofZ}
 use Rattle.matrices.proofs.Range.{below-range, above-range, within-range}
 use Rattle.matrices.proofs.questions.in_range.Statement.{statement}
 use Rattle.matrices.proofs.questions.in_range.Tie as tie
-use Rattle.matrices.proofs.questions.in_range.Reads as reads
-use Rattle.matrices.proofs.questions.in_range.Lts as lts
 
--- src/questions.rt:16:9
 returns : tie.Need-returns
 returns c =
     let e = c .before in
     sym (below-range (toZ-ofZ w64 (e .args .x) (e .fits .x)) (c .if1 .taken))
 
--- src/questions.rt:19:9
 returns-2 : tie.Need-returns-2
 returns-2 c =
     let e = c .before .before in
     sym (above-range (toZ-ofZ w64 (e .args .x) (e .fits .x)) (c .if2 .taken))
 
--- src/questions.rt:12:1
 returns-3 : tie.Need-returns-3
 returns-3 c =
     let e = c .before .before in

@@ -10,9 +10,6 @@ use Rattle.matrices.proofs.Range.{below-one, above-one, exactly-one}
 use borrow.Author.Needs.{needs}
 use Rattle.matrices.proofs.questions.of_determinant.Statement.{statement}
 use Rattle.matrices.proofs.questions.of_determinant.Tie as tie
-use Rattle.matrices.proofs.questions.of_determinant.Reads as reads
-use Rattle.matrices.proofs.questions.of_determinant.Lts as lts
-use Rattle.matrices.proofs.questions.determinant.Reads as determinant-reads
 
 -- the determinant that the comparisons read
 read-determinant : (c : tie.After-determinant) → reading (c .determinant .result) ≡ determinant (matrix (c .before .args .m))
@@ -20,19 +17,15 @@ read-determinant c =
     let f : SFits w64 (c .determinant .result) = search needs in
     toZ-ofZ w64 (c .determinant .result) f ∙ c .determinant .ensures
 
--- src/questions.rt:56:9
 determinant-requires : tie.Need-determinant-requires
 determinant-requires c κs = search needs
 
--- src/questions.rt:58:9
 returns : tie.Need-returns
 returns c = below-one (matrix (c .before .before .args .m)) (read-determinant (c .before)) (c .if1 .taken)
 
--- src/questions.rt:61:9
 returns-2 : tie.Need-returns-2
 returns-2 c = above-one (matrix (c .before .before .before .args .m)) (read-determinant (c .before .before)) (c .if2 .taken)
 
--- src/questions.rt:52:1
 returns-3 : tie.Need-returns-3
 returns-3 c = exactly-one (matrix (c .before .before .before .args .m)) (read-determinant (c .before .before)) (c .before .if1 .left) (c .if2 .left)
 

@@ -5,32 +5,22 @@ use Rattle.matrices.proofs.Range.{entries-refused, entries-in-range}
 use borrow.Author.Needs.{needs}
 use Rattle.matrices.proofs.questions.of_entries.Statement.{statement}
 use Rattle.matrices.proofs.questions.of_entries.Tie as tie
-use Rattle.matrices.proofs.questions.of_entries.Reads as reads
-use Rattle.matrices.proofs.questions.of_entries.Lts as lts
-use Rattle.matrices.proofs.questions.of_determinant.Reads as of-determinant-reads
-use Rattle.matrices.proofs.questions.of_range.Reads as of-range-reads
 
--- src/questions.rt:70:11
 of-range-requires : tie.Need-of-range-requires
 of-range-requires c κs = search needs
 
--- src/questions.rt:71:24
 enum-known-refusal : tie.Need-enum-known-refusal
 enum-known-refusal c = search needs
 
--- src/questions.rt:72:26
 enum-told : tie.Need-enum-told
 enum-told c = search needs
 
--- src/questions.rt:72:26
 of-determinant-requires : tie.Need-of-determinant-requires
 of-determinant-requires c κs = sym (c .before .before .of-range .ensures) ∙ c .enum-told .given .1
 
--- src/questions.rt:67:1
 returns : tie.Need-returns
 returns c = sym (entries-refused (matrix (c .before .before .before .before .args .m)) (sym (c .before .before .before .of-range .ensures) ∙ c .before .refusal .given .1))
 
--- src/questions.rt:67:1
 returns-2 : tie.Need-returns-2
 returns-2 c =
     c .of-determinant .ensures ∙ sym (entries-in-range (matrix (c .before .before .before .before .args .m)) (sym (c .before .before .before .of-range .ensures) ∙ c .before .enum-told .given .1))

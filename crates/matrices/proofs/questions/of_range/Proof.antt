@@ -9,9 +9,6 @@ use Rattle.matrices.proofs.Range.{byAnswers}
 use borrow.Author.Needs.{needs}
 use Rattle.matrices.proofs.questions.of_range.Statement.{statement}
 use Rattle.matrices.proofs.questions.of_range.Tie as tie
-use Rattle.matrices.proofs.questions.of_range.Reads as reads
-use Rattle.matrices.proofs.questions.of_range.Lts as lts
-use Rattle.matrices.proofs.questions.in_range.Reads as in-range-reads
 
 -- what the tests that led to a place say
 a-passed : (c : tie.Then1) → inRange (c .before .before .before .args .m .a) ≡ true
@@ -29,23 +26,18 @@ c-passed c =
     let f : SFits w64 (c .before .before .before .before .before .before .before .before .before .args .m .c) = search needs in
     of-reading inRange f (c .before .in-range3 .ensures) (c .if3 .taken)
 
--- src/questions.rt:28:8
 in-range-requires : tie.Need-in-range-requires
 in-range-requires c κs = search needs
 
--- src/questions.rt:29:12
 in-range-requires-2 : tie.Need-in-range-requires-2
 in-range-requires-2 c κs = search needs
 
--- src/questions.rt:30:16
 in-range-requires-3 : tie.Need-in-range-requires-3
 in-range-requires-3 c κs = search needs
 
--- src/questions.rt:31:20
 in-range-requires-4 : tie.Need-in-range-requires-4
 in-range-requires-4 c κs = search needs
 
--- src/questions.rt:32:21
 returns : tie.Need-returns
 returns c =
     let m = c .before .before .before .before .before .before .before .before .before .before .before .before .args .m in
@@ -53,7 +45,6 @@ returns c =
     let d : inRange (m .d) ≡ true = of-reading inRange f (c .before .in-range4 .ensures) (c .if4 .taken) in
     sym (λ i. byAnswers (a-passed (c .before .before .before .before .before .before .before .before .before) i) (b-passed (c .before .before .before .before .before .before) i) (c-passed (c .before .before .before) i) (d i))
 
--- src/questions.rt:34:17
 returns-2 : tie.Need-returns-2
 returns-2 c =
     let m = c .before .before .before .before .before .before .before .before .before .before .before .before .args .m in
@@ -61,7 +52,6 @@ returns-2 c =
     let d : inRange (m .d) ≡ false = of-reading inRange f (c .before .in-range4 .ensures) (c .if4 .left) in
     sym (λ i. byAnswers (a-passed (c .before .before .before .before .before .before .before .before .before) i) (b-passed (c .before .before .before .before .before .before) i) (c-passed (c .before .before .before) i) (d i))
 
--- src/questions.rt:36:13
 returns-3 : tie.Need-returns-3
 returns-3 c =
     let m = c .before .before .before .before .before .before .before .before .before .args .m in
@@ -69,7 +59,6 @@ returns-3 c =
     let e : inRange (m .c) ≡ false = of-reading inRange f (c .before .in-range3 .ensures) (c .if3 .left) in
     sym (λ i. byAnswers (a-passed (c .before .before .before .before .before .before) i) (b-passed (c .before .before .before) i) (e i) (inRange (m .d)))
 
--- src/questions.rt:38:9
 returns-4 : tie.Need-returns-4
 returns-4 c =
     let m = c .before .before .before .before .before .before .args .m in
@@ -77,7 +66,6 @@ returns-4 c =
     let e : inRange (m .b) ≡ false = of-reading inRange f (c .before .in-range2 .ensures) (c .if2 .left) in
     sym (λ i. byAnswers (a-passed (c .before .before .before) i) (e i) (inRange (m .c)) (inRange (m .d)))
 
--- src/questions.rt:25:1
 returns-5 : tie.Need-returns-5
 returns-5 c =
     let m = c .before .before .before .args .m in

@@ -4,34 +4,27 @@ use Rattle.unimodular.proofs.Product.{entries}
 use Rattle.matrices.proofs.Signed.{read, negation}
 use Rattle.matrices.proofs.sign.negated.Statement.{statement}
 use Rattle.matrices.proofs.sign.negated.Tie as tie
-use Rattle.matrices.proofs.sign.negated.Reads as reads
-use Rattle.matrices.proofs.sign.negated.Lts as lts
 
--- src/sign.rt:14:12
 sub-t2 : tie.Need-sub-t2
 sub-t2 c =
     let m = c .before .before .args .m in
     negation (read (m .a) (omega arith)) (omega arith) .within
 
--- src/sign.rt:15:12
 sub-t3 : tie.Need-sub-t3
 sub-t3 c =
     let m = c .before .before .before .before .args .m in
     negation (read (m .b) (omega arith)) (omega arith) .within
 
--- src/sign.rt:16:12
 sub-t4 : tie.Need-sub-t4
 sub-t4 c =
     let m = c .before .before .before .before .before .before .args .m in
     negation (read (m .c) (omega arith)) (omega arith) .within
 
--- src/sign.rt:17:12
 sub-t5 : tie.Need-sub-t5
 sub-t5 c =
     let m = c .before .before .before .before .before .before .before .before .args .m in
     negation (read (m .d) (omega arith)) (omega arith) .within
 
--- src/sign.rt:9:1
 returns : tie.Need-returns
 returns c =
     let m = c .before .before .before .before .before .before .before .before .args .m in

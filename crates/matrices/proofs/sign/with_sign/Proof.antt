@@ -7,27 +7,20 @@ use Rattle.matrices.proofs.Signs.{first-positive, first-negative, first
 use borrow.Author.Needs.{needs}
 use Rattle.matrices.proofs.sign.with_sign.Statement.{statement}
 use Rattle.matrices.proofs.sign.with_sign.Tie as tie
-use Rattle.matrices.proofs.sign.with_sign.Reads as reads
-use Rattle.matrices.proofs.sign.with_sign.Lts as lts
-use Rattle.matrices.proofs.sign.negated.Reads as negated-reads
 
--- src/sign.rt:29:9
 returns : tie.Need-returns
 returns c =
     let m = c .before .before .before .args .m in
     sym (signed-as-is (matrix m) (first-positive (m .a) (m .b) (positive-test (read (m .a) (omega arith)) (c .if1 .taken))))
 
--- src/sign.rt:32:9
 negated-requires : tie.Need-negated-requires
 negated-requires c κs = search needs
 
--- src/sign.rt:32:9
 returns-2 : tie.Need-returns-2
 returns-2 c =
     let m = c .before .before .before .before .before .args .m in
     c .negated .ensures ∙ sym (signed-negated (matrix m) (first-negative (m .a) (m .b) (negative-test (read (m .a) (omega arith)) (c .before .if2 .taken))))
 
--- src/sign.rt:35:9
 returns-3 : tie.Need-returns-3
 returns-3 c =
     let m = c .before .before .before .before .before .args .m in
@@ -35,11 +28,9 @@ returns-3 c =
     let n = negative-test (read (m .a) (omega arith)) (c .before .if2 .left) in
     sym (signed-as-is (matrix m) (first-zero (m .a) (m .b) p n ∙ positive-test (read (m .b) (omega arith)) (c .if3 .taken)))
 
--- src/sign.rt:37:5
 negated-requires-2 : tie.Need-negated-requires-2
 negated-requires-2 c κs = search needs
 
--- src/sign.rt:22:1
 returns-4 : tie.Need-returns-4
 returns-4 c =
     let m = c .before .before .before .before .before .before .args .m in

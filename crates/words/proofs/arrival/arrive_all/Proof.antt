@@ -10,9 +10,6 @@ use borrow.Author.Needs.{needs}
 use native.Mathlib.Omega.{arith}
 use Rattle.words.proofs.arrival.arrive_all.Statement.{statement}
 use Rattle.words.proofs.arrival.arrive_all.Tie as tie
-use Rattle.words.proofs.arrival.arrive_all.Reads as reads
-use Rattle.words.proofs.arrival.arrive_all.Lts as lts
-use Rattle.words.proofs.arrival.arrive.Reads as arrive-reads
 
 abbrev Inv-loop : tie.InvT-loop
 Inv-loop stack₀ word top₀ i₀ stack top i =
@@ -21,31 +18,25 @@ Inv-loop stack₀ word top₀ i₀ stack top i =
 abbrev μ-loop : tie.MeasureT-loop
 μ-loop stack₀ word top₀ i₀ stack top i = length word - i
 
--- src/arrival.rt:103:5
 loop-holds : tie.Need-loop-holds Inv-loop μ-loop
 loop-holds c =
     let a = c .before .before .args in
     (omega arith, refl, omega arith, arriving-begins (a .stack .now) (wordOf (a .word .now)))
 
--- src/arrival.rt:104:34
 shared-slice-read-arrive : tie.Need-shared-slice-read-arrive Inv-loop μ-loop
 shared-slice-read-arrive c = search needs
 
--- src/arrival.rt:104:9
 arrive-requires : tie.Need-arrive-requires Inv-loop μ-loop
 arrive-requires c κs =
     let l = c .before .before .before .loop in
     (arriving-some (l .stack) (l .top .len) (l .top .ending) (l .inv .3), omega arith)
 
--- src/arrival.rt:105:9
 add-i : tie.Need-add-i Inv-loop μ-loop
 add-i c = search needs
 
--- src/arrival.rt:103:5
 loop-less : tie.Need-loop-less Inv-loop μ-loop
 loop-less c = search needs
 
--- src/arrival.rt:103:5
 loop-again : tie.Need-loop-again Inv-loop μ-loop
 loop-again c =
     let l = c .before .before .before .before .before .before .loop in
@@ -57,11 +48,9 @@ loop-again c =
       arriving-more (letter (getD w (l .i) 0) ∷ []) (wordOf (drop (l .i + 1) w)) (rest-of-word w (l .i) (omega arith)) (l .inv .3) m,
     )
 
--- src/arrival.rt:97:1
 same-length : tie.Need-same-length Inv-loop μ-loop
 same-length c = c .before .loop .inv .1
 
--- src/arrival.rt:97:1
 returns : tie.Need-returns Inv-loop μ-loop
 returns c =
     let w = c .before .before .before .before .args .word .now in

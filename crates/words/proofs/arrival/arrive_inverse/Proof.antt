@@ -13,9 +13,6 @@ use borrow.Author.Needs.{needs}
 use native.Mathlib.Omega.{arith}
 use Rattle.words.proofs.arrival.arrive_inverse.Statement.{statement}
 use Rattle.words.proofs.arrival.arrive_inverse.Tie as tie
-use Rattle.words.proofs.arrival.arrive_inverse.Reads as reads
-use Rattle.words.proofs.arrival.arrive_inverse.Lts as lts
-use Rattle.words.proofs.arrival.arrive_inverse_letter.Reads as arrive-inverse-letter-reads
 
 abbrev Inv-loop : tie.InvT-loop
 Inv-loop stack₀ word top₀ i₀ stack top i =
@@ -24,33 +21,27 @@ Inv-loop stack₀ word top₀ i₀ stack top i =
 abbrev μ-loop : tie.MeasureT-loop
 μ-loop stack₀ word top₀ i₀ stack top i = i
 
--- src/arrival.rt:117:5
 loop-holds : tie.Need-loop-holds Inv-loop μ-loop
 loop-holds c =
     let a = c .before .before .args in
     let w = a .word .now in
     (omega arith, refl, omega arith, subst (λ (l : List ℕ). Arriving (a .stack .now) 0 0 (inverse (wordOf l)) (inverse (wordOf w))) (sym (take-length w)) (arriving-begins (a .stack .now) (inverse (wordOf w))))
 
--- src/arrival.rt:118:9
 sub-i : tie.Need-sub-i Inv-loop μ-loop
 sub-i c = search needs
 
--- src/arrival.rt:119:49
 shared-slice-read-arrive-inverse-letter :
     tie.Need-shared-slice-read-arrive-inverse-letter Inv-loop μ-loop
 shared-slice-read-arrive-inverse-letter c = search needs
 
--- src/arrival.rt:119:9
 arrive-inverse-letter-requires : tie.Need-arrive-inverse-letter-requires Inv-loop μ-loop
 arrive-inverse-letter-requires c κs =
     let l = c .before .before .before .loop in
     (arriving-some (l .stack) (l .top .len) (l .top .ending) (l .inv .3), omega arith)
 
--- src/arrival.rt:117:5
 loop-less : tie.Need-loop-less Inv-loop μ-loop
 loop-less c = search needs
 
--- src/arrival.rt:117:5
 loop-again : tie.Need-loop-again Inv-loop μ-loop
 loop-again c =
     let l = c .before .before .before .before .before .before .loop in
@@ -62,11 +53,9 @@ loop-again c =
       arriving-more (inverseLetter (letter (getD w (l .i - 1) 0))) (inverse (wordOf (take (l .i - 1) w))) (rest-of-inverse w (l .i) (omega arith) (omega arith)) (l .inv .3) m,
     )
 
--- src/arrival.rt:111:1
 same-length : tie.Need-same-length Inv-loop μ-loop
 same-length c = c .before .loop .inv .1
 
--- src/arrival.rt:111:1
 returns : tie.Need-returns Inv-loop μ-loop
 returns c =
     let l = c .before .loop in

@@ -5,37 +5,27 @@ use native.Mathlib.Omega.{arith}
 use borrow.Author.Needs.{needs}
 use Rattle.words.proofs.arrival.arrive_inverse_letter.Statement.{statement}
 use Rattle.words.proofs.arrival.arrive_inverse_letter.Tie as tie
-use Rattle.words.proofs.arrival.arrive_inverse_letter.Reads as reads
-use Rattle.words.proofs.arrival.arrive_inverse_letter.Lts as lts
-use Rattle.words.proofs.arrival.arrive.Reads as arrive-reads
 
--- src/arrival.rt:90:9
 arrive-requires : tie.Need-arrive-requires
 arrive-requires c κs = search needs
 
--- src/arrival.rt:90:9
 same-length : tie.Need-same-length
 same-length c = search needs
 
--- src/arrival.rt:90:9
 returns : tie.Need-returns
 returns c = rw (letter-r _ (c .before .before .before .before .if1 .taken)) (c .before .before .arrive .ensures)
 
--- src/arrival.rt:92:9
 arrive-requires-2 : tie.Need-arrive-requires-2
 arrive-requires-2 c κs = search needs
 
--- src/arrival.rt:93:5
 arrive-requires-3 : tie.Need-arrive-requires-3
 arrive-requires-3 c κs =
     let m = c .before .before .before .arrive2 in
     (arrives-some (c .before .before .before .before .before .before .before .pre .0) (m .ensures), omega (arith, m .ensures .grows, m .kept .0))
 
--- src/arrival.rt:84:1
 same-length-2 : tie.Need-same-length-2
 same-length-2 c = search needs
 
--- src/arrival.rt:84:1
 returns-2 : tie.Need-returns-2
 returns-2 c = rw (letter-s _ (c .before .before .before .before .before .before .before .before .if1 .left)) (arrives-then (c .before .before .before .before .before .before .arrive2 .ensures) (c .before .before .arrive3 .ensures))
 

@@ -42,35 +42,30 @@ abbrev from-s-part-below : ℕ → In 1 from-s-part-kinds.ps
 from-s-part-below t =
     and 1 from-s-part-kinds.ps (falls 1 from-s-part-kinds.ps _<_ μ-from-s-part t) from-s-part.Pre
 
--- src/normality.rt:29:9
 from-r-part-returns : (t : ℕ) → from-r-part-lts.Need-returns (
   from-s-part-below t,
   from-s-part.Post,
 ) (from-r-part-at t) from-r-part.Post
 from-r-part-returns t c = nothing-from-r (rest-none (c .before .before .args .word .now) (c .before .before .args .at) (c .if1 .taken))
 
--- src/normality.rt:31:8
 from-r-part-shared-slice-read-if2 : (t : ℕ) → from-r-part-lts.Need-shared-slice-read-if2 (
   from-s-part-below t,
   from-s-part.Post,
 ) (from-r-part-at t) from-r-part.Post
 from-r-part-shared-slice-read-if2 t c = search needs
 
--- src/normality.rt:32:34
 from-r-part-add-from-s-part : (t : ℕ) → from-r-part-lts.Need-add-from-s-part (
   from-s-part-below t,
   from-s-part.Post,
 ) (from-r-part-at t) from-r-part.Post
 from-r-part-add-from-s-part t c = search needs
 
--- src/normality.rt:32:9
 from-r-part-from-s-part-requires : (t : ℕ) → from-r-part-lts.Need-from-s-part-requires (
   from-s-part-below t,
   from-s-part.Post,
 ) (from-r-part-at t) from-r-part.Post
 from-r-part-from-s-part-requires t c κs = search needs
 
--- src/normality.rt:32:9
 from-r-part-returns-2 : (t : ℕ) → from-r-part-lts.Need-returns-2 (
   from-s-part-below t,
   from-s-part.Post,
@@ -80,7 +75,6 @@ from-r-part-returns-2 t c =
     let at = c .before .before .before .before .before .args .at in
     r-then (c .from-s-part .result) (wordOf (drop (at + 1) w)) (rest-r w at (omega arith) (c .before .if2 .taken)) (c .from-s-part .ensures)
 
--- src/normality.rt:24:1
 from-r-part-returns-3 : (t : ℕ) → from-r-part-lts.Need-returns-3 (
   from-s-part-below t,
   from-s-part.Post,
@@ -90,21 +84,18 @@ from-r-part-returns-3 t c =
     let at = c .before .before .before .before .args .at in
     not-from-r (rest-s w at (omega arith) (c .if2 .left))
 
--- src/normality.rt:43:9
 from-s-part-returns : (t : ℕ) → from-s-part-lts.Need-returns (
   from-r-part-below t,
   from-r-part.Post,
 ) (from-s-part-at t) from-s-part.Post
 from-s-part-returns t c = nothing-from-s (rest-none (c .before .before .args .word .now) (c .before .before .args .at) (c .if1 .taken))
 
--- src/normality.rt:45:8
 from-s-part-shared-slice-read-if2 : (t : ℕ) → from-s-part-lts.Need-shared-slice-read-if2 (
   from-r-part-below t,
   from-r-part.Post,
 ) (from-s-part-at t) from-s-part.Post
 from-s-part-shared-slice-read-if2 t c = search needs
 
--- src/normality.rt:46:9
 from-s-part-returns-2 : (t : ℕ) → from-s-part-lts.Need-returns-2 (
   from-r-part-below t,
   from-r-part.Post,
@@ -114,14 +105,12 @@ from-s-part-returns-2 t c =
     let at = c .before .before .before .before .args .at in
     not-from-s (rest-r w at (omega arith) (c .if2 .taken))
 
--- src/normality.rt:48:8
 from-s-part-add-if3 : (t : ℕ) → from-s-part-lts.Need-add-if3 (
   from-r-part-below t,
   from-r-part.Post,
 ) (from-s-part-at t) from-s-part.Post
 from-s-part-add-if3 t c = search needs
 
--- src/normality.rt:49:9
 from-s-part-returns-3 : (t : ℕ) → from-s-part-lts.Need-returns-3 (
   from-r-part-below t,
   from-r-part.Post,
@@ -131,35 +120,30 @@ from-s-part-returns-3 t c =
     let at = c .before .before .before .before .before .args .at in
     s-alone (rest-s w at (omega arith) (c .before .if2 .left)) (rest-none w (at + 1) (c .if3 .taken))
 
--- src/normality.rt:51:13
 from-s-part-add-if4 : (t : ℕ) → from-s-part-lts.Need-add-if4 (
   from-r-part-below t,
   from-r-part.Post,
 ) (from-s-part-at t) from-s-part.Post
 from-s-part-add-if4 t c = search needs
 
--- src/normality.rt:51:8
 from-s-part-shared-slice-read-if4 : (t : ℕ) → from-s-part-lts.Need-shared-slice-read-if4 (
   from-r-part-below t,
   from-r-part.Post,
 ) (from-s-part-at t) from-s-part.Post
 from-s-part-shared-slice-read-if4 t c = search needs
 
--- src/normality.rt:52:34
 from-s-part-add-from-r-part : (t : ℕ) → from-s-part-lts.Need-add-from-r-part (
   from-r-part-below t,
   from-r-part.Post,
 ) (from-s-part-at t) from-s-part.Post
 from-s-part-add-from-r-part t c = search needs
 
--- src/normality.rt:52:9
 from-s-part-from-r-part-requires : (t : ℕ) → from-s-part-lts.Need-from-r-part-requires (
   from-r-part-below t,
   from-r-part.Post,
 ) (from-s-part-at t) from-s-part.Post
 from-s-part-from-r-part-requires t c κs = search needs
 
--- src/normality.rt:52:9
 from-s-part-returns-4 : (t : ℕ) → from-s-part-lts.Need-returns-4 (
   from-r-part-below t,
   from-r-part.Post,
@@ -170,21 +154,18 @@ from-s-part-returns-4 t c =
     let next = rest-r w (at + 1) (omega arith) (c .before .if4 .taken) in
     s-then-r (c .from-r-part .result) (wordOf (drop (at + 1 + 1) w)) (rest-s w at (omega arith) (c .before .before .before .before .if2 .left) ∙ ap (λ (l : Word). S ∷ l) next) (subst (λ (l : Word). Decides (c .from-r-part .result) (FromRPart l)) next (c .from-r-part .ensures))
 
--- src/normality.rt:54:23
 from-s-part-add-from-r-part-2 : (t : ℕ) → from-s-part-lts.Need-add-from-r-part-2 (
   from-r-part-below t,
   from-r-part.Post,
 ) (from-s-part-at t) from-s-part.Post
 from-s-part-add-from-r-part-2 t c = search needs
 
--- src/normality.rt:54:5
 from-s-part-from-r-part-requires-2 : (t : ℕ) → from-s-part-lts.Need-from-r-part-requires-2 (
   from-r-part-below t,
   from-r-part.Post,
 ) (from-s-part-at t) from-s-part.Post
 from-s-part-from-r-part-requires-2 t c κs = search needs
 
--- src/normality.rt:38:1
 from-s-part-returns-5 : (t : ℕ) → from-s-part-lts.Need-returns-5 (
   from-r-part-below t,
   from-r-part.Post,

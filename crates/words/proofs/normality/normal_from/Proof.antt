@@ -7,38 +7,28 @@ use native.Mathlib.Omega.{arith}
 use borrow.Author.Needs.{needs}
 use Rattle.words.proofs.normality.normal_from.Statement.{statement}
 use Rattle.words.proofs.normality.normal_from.Tie as tie
-use Rattle.words.proofs.normality.normal_from.Reads as reads
-use Rattle.words.proofs.normality.normal_from.Lts as lts
-use Rattle.words.proofs.normality.from_r_part.Reads as from-r-part-reads
-use Rattle.words.proofs.normality.from_s_part.Reads as from-s-part-reads
 
--- src/normality.rt:15:9
 returns : tie.Need-returns
 returns c =
     let w = c .before .before .args .word .now in
     let at = c .before .before .args .at in
     nothing-normal (rest-none w at (c .if1 .taken))
 
--- src/normality.rt:17:8
 shared-slice-read-if2 : tie.Need-shared-slice-read-if2
 shared-slice-read-if2 c = search needs
 
--- src/normality.rt:18:9
 from-r-part-requires : tie.Need-from-r-part-requires
 from-r-part-requires c κs = search needs
 
--- src/normality.rt:18:9
 returns-2 : tie.Need-returns-2
 returns-2 c =
     let w = c .before .before .before .before .before .args .word .now in
     let at = c .before .before .before .before .before .args .at in
     normal-by-r (c .from-r-part .result) (wordOf (drop (at + 1) w)) (rest-r w at (omega arith) (c .before .if2 .taken)) (c .from-r-part .ensures)
 
--- src/normality.rt:20:5
 from-s-part-requires : tie.Need-from-s-part-requires
 from-s-part-requires c κs = search needs
 
--- src/normality.rt:10:1
 returns-3 : tie.Need-returns-3
 returns-3 c =
     let w = c .before .before .before .before .before .args .word .now in

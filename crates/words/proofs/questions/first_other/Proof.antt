@@ -8,9 +8,6 @@ use borrow.Author.Needs.{needs}
 use native.Mathlib.Omega.{arith}
 use Rattle.words.proofs.questions.first_other.Statement.{statement}
 use Rattle.words.proofs.questions.first_other.Tie as tie
-use Rattle.words.proofs.questions.first_other.Reads as reads
-use Rattle.words.proofs.questions.first_other.Lts as lts
-use Rattle.words.proofs.questions.is_letter.Reads as is-letter-reads
 
 abbrev Inv-loop : tie.InvT-loop
 Inv-loop word i₀ i = (i ≤ length word) × (firstOther word ≡ i + firstOther (drop i word))
@@ -18,41 +15,33 @@ Inv-loop word i₀ i = (i ≤ length word) × (firstOther word ≡ i + firstOthe
 abbrev μ-loop : tie.MeasureT-loop
 μ-loop word i₀ i = length word - i
 
--- src/questions.rt:24:5
 loop-holds : tie.Need-loop-holds Inv-loop μ-loop
 loop-holds c = search needs
 
--- src/questions.rt:25:22
 shared-slice-read-is-letter : tie.Need-shared-slice-read-is-letter Inv-loop μ-loop
 shared-slice-read-is-letter c = search needs
 
--- src/questions.rt:25:12
 is-letter-requires : tie.Need-is-letter-requires Inv-loop μ-loop
 is-letter-requires c κs = search needs
 
--- src/questions.rt:26:13
 add-i : tie.Need-add-i Inv-loop μ-loop
 add-i c = search needs
 
--- src/questions.rt:24:5
 loop-less : tie.Need-loop-less Inv-loop μ-loop
 loop-less c = search needs
 
--- src/questions.rt:24:5
 loop-again : tie.Need-loop-again Inv-loop μ-loop
 loop-again c =
     let l = c .before .before .before .before .loop in
     let w = c .before .before .before .before .before .before .args .word .now in
     (omega arith, omega (arith, l .inv .1, first-other-more w (l .i) (omega arith) (sym (c .before .is-letter .ensures) ∙ c .if1 .taken)))
 
--- src/questions.rt:28:13
 returns : tie.Need-returns Inv-loop μ-loop
 returns c =
     let l = c .before .before .before .before .loop in
     let w = c .before .before .before .before .before .before .args .word .now in
     omega (arith, l .inv .1, first-other-here w (l .i) (omega arith) (sym (c .before .is-letter .ensures) ∙ c .if1 .left))
 
--- src/questions.rt:20:1
 returns-2 : tie.Need-returns-2 Inv-loop μ-loop
 returns-2 c =
     let l = c .before .loop in

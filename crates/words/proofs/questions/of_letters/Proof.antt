@@ -2,30 +2,22 @@
 use lib.ListN.{length}
 use borrow.Author.Tests.{le-leb, lt-leb}
 use Rattle.words.specs.Questions.{firstOther}
-use native.Mathlib.Omega.{arith}
 use borrow.Author.Needs.{needs}
 use Rattle.words.proofs.questions.of_letters.Statement.{statement}
 use Rattle.words.proofs.questions.of_letters.Tie as tie
-use Rattle.words.proofs.questions.of_letters.Reads as reads
-use Rattle.words.proofs.questions.of_letters.Lts as lts
-use Rattle.words.proofs.questions.first_other.Reads as first-other-reads
 
--- src/questions.rt:39:9
 returns : tie.Need-returns
 returns c = simp (lt-leb _ _ (c .if1 .taken))
 
--- src/questions.rt:41:9
 first-other-requires : tie.Need-first-other-requires
 first-other-requires c κs = search needs
 
--- src/questions.rt:43:9
 returns-2 : tie.Need-returns-2
 returns-2 c =
     let w = c .before .before .before .before .args .word .now in
     let other = c .before .first-other .ensures in
     simp (le-leb _ _ (c .before .before .if1 .left), other, lt-leb (length w) (firstOther w) (rw other at (c .if2 .taken)))
 
--- src/questions.rt:35:1
 returns-3 : tie.Need-returns-3
 returns-3 c =
     let w = c .before .before .before .before .args .word .now in

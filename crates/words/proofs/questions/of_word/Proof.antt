@@ -3,39 +3,29 @@ use mathlib.Core.Path.{sym, _∙_}
 use borrow.Author.Tests.{le-leb, lt-leb}
 use Rattle.words.specs.declared.Refusal.the-variants.{OutputTooShort}
 use Rattle.words.proofs.Asking.{asks-yes, asks-no, of-word-room, of-word-refused}
-use native.Mathlib.Omega.{arith}
 use borrow.Author.Needs.{needs}
 use Rattle.words.proofs.questions.of_word.Statement.{statement}
 use Rattle.words.proofs.questions.of_word.Tie as tie
-use Rattle.words.proofs.questions.of_word.Reads as reads
-use Rattle.words.proofs.questions.of_word.Lts as lts
-use Rattle.words.proofs.questions.of_letters.Reads as of-letters-reads
 
--- src/questions.rt:52:11
 of-letters-requires : tie.Need-of-letters-requires
 of-letters-requires c κs = search needs
 
--- src/questions.rt:53:24
 enum-known-refusal : tie.Need-enum-known-refusal
 enum-known-refusal c = search needs
 
--- src/questions.rt:55:16
 enum-told : tie.Need-enum-told
 enum-told c = search needs
 
--- src/questions.rt:56:17
 returns : tie.Need-returns
 returns c =
     let a = c .before .before .before .before .before .args in
     sym (of-word-room (a .word .now) (a .needed) (a .room) (sym (c .before .before .before .of-letters .ensures) ∙ c .before .enum-told .given .1) ∙ asks-no _ OutputTooShort (lt-leb _ _ (c .if1 .taken)))
 
--- src/questions.rt:49:1
 returns-2 : tie.Need-returns-2
 returns-2 c =
     let a = c .before .before .before .before .before .args in
     sym (of-word-refused (a .word .now) (a .needed) (a .room) (sym (c .before .before .before .of-letters .ensures) ∙ c .before .refusal .given .1))
 
--- src/questions.rt:49:1
 returns-3 : tie.Need-returns-3
 returns-3 c =
     let a = c .before .before .before .before .before .args in
