@@ -1,6 +1,7 @@
 //! Measures the proved verdict against the same method in plain Rust, in one process: both get the same calls in turn, and must give the same verdict and
 //! count.
 //!
+//!     kernelhop_benchmark agree             only holds the one to the other, on 20,000 small calls
 //!     kernelhop_benchmark ratios            the ratios on the largest calls, one on a line
 //!     kernelhop_benchmark PLOT FILE..       all tables in Markdown, and the plot: both of these and a walk of the group. Each file holds what `ratios` printed
 //!                                           where the functions were moved
@@ -396,11 +397,15 @@ fn over_m(lent: &mut Lent) -> Vec<plot::Line> {
 
 fn main() {
     let words: Vec<String> = std::env::args().skip(1).collect();
-    let (plot, files) = words.split_first().expect("ratios, or the plot's file");
+    let (plot, files) = words
+        .split_first()
+        .expect("agree, ratios, or the plot's file");
     reference::shift();
     let mut lent = Lent::new(481 * 481, 1000);
-    if plot == "ratios" {
-        return print_ratios(&mut lent);
+    match plot.as_str() {
+        "agree" => return compare_small(20_000),
+        "ratios" => return print_ratios(&mut lent),
+        _ => {}
     }
     let moved: Vec<_> = files.iter().map(|file| read_ratios(file)).collect();
     compare_small(20_000);

@@ -58,7 +58,10 @@ LARGEST_BOUND = 1000
 
 
 class Refused(ValueError):
-    """The first question that was answered no: its number, from 1 to 16, the place that it names, or 0, and what is wrong in words."""
+    """The first question that was answered no: its number, from 1 to 16, the place that it names, or 0, and what is wrong in words.
+
+    A place is a byte of the card, an entry of the matrix, a generator, or a letter, counted through the whole list and then the target.
+    """
 
     def __init__(self, number, place):
         super().__init__(number, place)
