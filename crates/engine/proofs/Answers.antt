@@ -1,24 +1,15 @@
--- What an answer says of a property: yes or no, a node or none, a pair of nodes or none. Assumes nothing.
-use mathlib.Core.Bool.{Bool, true, false}
+-- What an answer says of a property: a node or none, a pair of nodes or none. Assumes nothing.
 use mathlib.Core.Path.{_≡_, subst}
 use Prim.Native.Nat.{ℕ, _+_, _≤_, _<_}
 use native.Mathlib.Decide.{decLt, ℕ-discrete}
 use native.Mathlib.Omega.{arith}
-use lib.Dec.{eqb}
-use borrow.Author.Tests.{eq-eqb, ne-eqb}
-use Rattle.engine.specs.Tight.{Tells, Names, Holds}
+use Rattle.engine.specs.Tight.{Names, Holds}
 use Rattle.engine.specs.declared.tight.Node.{Node}
 use Rattle.engine.specs.declared.tight.Node.the-variants.{At, Nowhere}
 use Rattle.engine.specs.declared.tight.Premise.{Premise}
 use Rattle.engine.specs.declared.tight.Premise.the-variants.{Pair, Nothing}
 
 -- ---- the answer is known
-
-pub tells-yes : (P : Type 0) {t : Bool} → t ≡ true → Tells P t → P
-tells-yes P e h = subst (Tells P) e h
-
-pub tells-no : (P : Type 0) {t : Bool} → t ≡ false → Tells P t → P → ⊥
-tells-no P e h = subst (Tells P) e h
 
 pub names-at : (P : ℕ → Type 0) {r : Node} {v : ℕ} → r ≡ At v → Names P r → P v
 names-at P e h = subst (Names P) e h
@@ -33,13 +24,6 @@ pub holds-none : (P : ℕ → ℕ → Type 0) {r : Premise} → r ≡ Nothing �
 holds-none P e h = subst (Holds P) e h
 
 -- ---- an answer to one question answers another that says the same
-
-pub tells-equal : (P : Type 0) (a b : ℕ) → (a ≡ b → P) → (P → a ≡ b) → Tells P (eqb a b)
-tells-equal P a b there again =
-    elim (ℕ-discrete a b) [
-      | yes e ↦ rw (eq-eqb a b e) (there e)
-      | no n ↦ rw (ne-eqb a b n) (λ h. n (again h))
-    ]
 
 pub holds-same : (P Q : ℕ → ℕ → Type 0) (r : Premise) → Holds P r → ((a b : ℕ) → P a b → Q a b) → ((a b : ℕ) → Q a b → P a b) → Holds Q r
 holds-same P Q (Pair a b) h there again = there a b h

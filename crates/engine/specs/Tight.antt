@@ -1,11 +1,11 @@
 -- A rule that is tight at a pair of nodes: the entries of its premises add up to the pair's. The rules of source 004's pairs of states, at the
 -- numbers of a tree's nodes; in words they are Rattle·products' `Tight`. Numbers only. Assumes nothing: these are definitions.
-use mathlib.Core.Bool.{Bool, true, false}
 use mathlib.Core.Path.{_≡_}
 use mathlib.Core.List.{List}
 use Prim.Native.Nat.{ℕ, _+_, _*_, _≤_, _<_}
 use lib.ListN.{length}
 use Rattle.trees.specs.Tree.{at}
+use Rattle.tables.specs.Nodes.{Begins}
 use Rattle.tables.specs.Rules.{place}
 use Rattle.engine.specs.declared.tight.Node.{Node}
 use Rattle.engine.specs.declared.tight.Node.the-variants.{At, Nowhere}
@@ -15,10 +15,6 @@ use Rattle.engine.specs.declared.tight.Step.{Step}
 use Rattle.engine.specs.declared.tight.Step.the-variants.{Factor, One, Two}
 
 -- ---- what an answer says of a property
-
-abbrev pub Tells : Type 0 → Bool → Type 0
-Tells P true = P
-Tells P false = P → ⊥
 
 -- the node that is named has the property, or none has it
 abbrev pub Names : (ℕ → Type 0) → Node → Type 0
@@ -47,10 +43,6 @@ pub record Counts (count : ℕ) (table : List ℕ) : Type 0 where
   pub positive : (p q : ℕ) → p < count → q < count → 1 ≤ at table (place count p q)
 
 -- ---- the rules
-
--- the word of node p begins with the letter of that byte
-abbrev pub Begins : List ℕ → ℕ → ℕ → Type 0
-Begins letters byte p = (0 < p) × (at letters p ≡ byte)
 
 -- the rest of a node whose word begins with that letter; the child of a node, where it has one
 abbrev pub RestBy : List ℕ → List ℕ → ℕ → ℕ → ℕ → Type 0

@@ -8,8 +8,9 @@ ghost use mathlib.Core.Path.{_≡_};
 ghost use mathlib.Core.List.{List, _++_};
 ghost use Prim.Native.Nat.{ℕ, _+_, _≤_, _<_};
 ghost use lib.ListN.{length};
+ghost use Rattle.words.specs.Telling.{Tells};
 ghost use Rattle.tables.specs.Rules.{place};
-ghost use Rattle.engine.specs.Tight.{Tells, Children, Counts};
+ghost use Rattle.engine.specs.Tight.{Children, Counts};
 ghost use Rattle.engine.specs.Walk.{stacked};
 ghost use Rattle.engine.specs.Descent.{Read, Chain, Back, Descendable, Descent};
 
@@ -22,7 +23,7 @@ pub(crate) struct Place {
 // Is row i's entry at c, where the letter is read, that of row i + 1 at q?
 fn is_read(rows: &[u16], count: usize, i: usize, q: usize, c: usize) -> bool
     requires { ⌜ (q < count) × (c < count) × (place count (i + 1) count ≤ length (now rows)) ⌝ }
-    ensures { λ r. ⌜ Tells (Read count (now (rows .entry)) i q c) r ⌝ }
+    ensures { λ r. ⌜ Tells r (Read count (now (rows .entry)) i q c) ⌝ }
 {
     if c == 0 {
         return false;
@@ -43,7 +44,7 @@ fn is_chain(
     requires { ⌜ Children count (now children) ⌝ }
     requires { ⌜ Counts count (now table) ⌝ }
     requires { ⌜ (q < count) × (v < count) × (place count (i + 1) count ≤ length (now rows)) ⌝ }
-    ensures { λ r. ⌜ Tells (Chain count (now (children .entry)) (now (table .entry)) (now (rows .entry)) i q v) r ⌝ }
+    ensures { λ r. ⌜ Tells r (Chain count (now (children .entry)) (now (table .entry)) (now (rows .entry)) i q v) ⌝ }
 {
     let c = entry(children, v);
     if c == 0 {

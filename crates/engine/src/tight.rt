@@ -5,8 +5,9 @@ use crate::entries::pair_entry;
 ghost use mathlib.Core.Path.{_≡_};
 ghost use Prim.Native.Nat.{ℕ, _+_, _<_};
 ghost use lib.ListN.{length};
+ghost use Rattle.words.specs.Telling.{Tells};
 ghost use Rattle.trees.specs.Tree.{at};
-ghost use Rattle.engine.specs.Tight.{Tells, Names, Holds, Rests, Children, Counts, RestBy, ChildOf, Same, Middle};
+ghost use Rattle.engine.specs.Tight.{Names, Holds, Rests, Children, Counts, RestBy, ChildOf, Same, Middle};
 ghost use Rattle.engine.specs.Tight.{TightA, TightB, TightC, TightD, TightE, TightF, TightG, TightOne, TightTwo, Tight, SomeTight};
 
 // A node, where there is one.
@@ -211,7 +212,7 @@ fn is_middle(
     requires { ⌜ Rests count (now letters) (now rests) ⌝ }
     requires { ⌜ Counts count (now table) ⌝ }
     requires { ⌜ (a < count) × (b < count) × (v < count) ⌝ }
-    ensures { λ r. ⌜ Tells (Middle count (now (letters .entry)) (now (rests .entry)) (now (table .entry)) k a b v) r ⌝ }
+    ensures { λ r. ⌜ Tells r (Middle count (now (letters .entry)) (now (rests .entry)) (now (table .entry)) k a b v) ⌝ }
 {
     match rest_by(letters, rests, v, 83) {
         Node::Nowhere => false,
@@ -282,7 +283,7 @@ fn rule_e(
 fn is_between(table: &[u16], count: usize, x: usize, y: usize, v: usize) -> bool
     requires { ⌜ Counts count (now table) ⌝ }
     requires { ⌜ (x < count) × (y < count) × (v < count) ⌝ }
-    ensures { λ r. ⌜ Tells (TightF count (now (table .entry)) x y v) r ⌝ }
+    ensures { λ r. ⌜ Tells r (TightF count (now (table .entry)) x y v) ⌝ }
 {
     pair_entry(table, count, x, y)
         == pair_entry(table, count, x, v) + pair_entry(table, count, v, y)
@@ -334,7 +335,7 @@ fn two_premises(
 fn is_whole(wholes: &[u16], table: &[u16], count: usize, x: usize, y: usize, j: usize) -> bool
     requires { ⌜ Counts count (now table) ⌝ }
     requires { ⌜ (x < count) × (y < count) × (j < length (now wholes)) ⌝ }
-    ensures { λ r. ⌜ Tells (TightA count (now (wholes .entry)) (now (table .entry)) x y j) r ⌝ }
+    ensures { λ r. ⌜ Tells r (TightA count (now (wholes .entry)) (now (table .entry)) x y j) ⌝ }
 {
     if x != 0 {
         return false;

@@ -12,14 +12,6 @@ use Rattle.words.specs.Bytes.{pick}
 use Rattle.words.specs.Questions.{isLetter, firstOther}
 use Rattle.lists.specs.Reducing.{AllLetters}
 
-pub first-other-within : (u : List ℕ) → firstOther u ≤ length u
-first-other-within [] = omega arith
-first-other-within (b ∷ u) = at (isLetter b) (first-other-within u)
-  where
-    at : (t : Bool) → firstOther u ≤ length u → pick t (suc (firstOther u)) 0 ≤ suc (length u)
-    at true h = omega arith
-    at false h = omega arith
-
 pub first-other-front : (u v : List ℕ) → firstOther u < length u → firstOther (u ++ v) ≡ firstOther u
 first-other-front [] v h = absurd (omega arith)
 first-other-front (b ∷ u) v h = at (isLetter b) h (first-other-front u v)

@@ -1,12 +1,12 @@
 -- Nodes that are found by following the slices, and what is relaxed at them. Assumes nothing.
-use mathlib.Core.Path.{_≡_, sym, ap, subst, _∙_}
+use mathlib.Core.Path.{_≡_, refl, sym, ap, subst, _∙_}
 use mathlib.Core.List.{List}
-use Prim.Native.Nat.{ℕ, _<_}
+use Prim.Native.Nat.{ℕ, _≤_, _<_}
 use native.Mathlib.Omega.{arith}
 use Rattle.trees.specs.Tree.{at}
 use Rattle.levels.specs.Levels.{Uses, Relaxed}
-use Rattle.levels.proofs.Relaxing.{relaxed-same}
-use Rattle.tables.specs.Nodes.{Finds, Noted, Front, Followed, Children}
+use Rattle.levels.proofs.Relaxing.{relaxed-none, relaxed-same}
+use Rattle.tables.specs.Nodes.{Finds, Noted, Begins, Front, Followed, Children}
 use Rattle.tables.specs.Relaxing.{Inside, Joins, Through}
 
 module _ {w : ℕ} {letters rests : List ℕ} where
@@ -29,7 +29,20 @@ module _ {w : ℕ} {letters rests : List ℕ} where
   pub front-node : {letter a p : ℕ} {children : List ℕ} → Followed w letters rests children → Front w letters rests letter a p → p < w
   front-node {a = a} followed (positive, inside, spelled, behind) = omega (arith, followed .rest-earlier a positive inside)
 
+module _ {w : ℕ} (letters rests : List ℕ) {letter : ℕ} (p : ℕ) where
+  -- a letter that begins p's word stands in front of p's rest, and of no other node
+  pub rest-front : p < w → Begins letters letter p → Finds w (Front w letters rests letter p) (at rests p)
+  rest-front below begins = record { found = λ inside. (begins .0, below, begins .1, refl); only = λ s inside front. sym (front .3) }
+
+  -- a letter that does not begin it stands in front of no node
+  pub no-front : (Begins letters letter p → ⊥) → (s : ℕ) → Front w letters rests letter p s → ⊥
+  no-front not s front = not (front .0, front .2)
+
 module _ {w : ℕ} where
+  -- where nothing is found there is no such node
+  pub not-found : {P : ℕ → Type 0} {r : ℕ} → Finds w P r → w ≤ r → (p : ℕ) → p < w → P p → ⊥
+  not-found finds outside p inside is = omega (arith, finds .only p inside is)
+
   -- what is found from what was found
   pub finds-through : {P : ℕ → Type 0} {Q : ℕ → ℕ → Type 0} {m r : ℕ} → ((a : ℕ) → Q m a → m < w) → Finds w P m → Finds w (Q m) r → Finds w (Through w P Q) r
   finds-through {P} {Q} {m} {r} node first second =
@@ -52,3 +65,7 @@ module _ {w : ℕ} where
         subst (λ (x : ℕ). Y x b q c) row (subst (λ (x : ℕ). Y (j .0) x q c) column (j .6)),
       ))
       relaxed
+
+  -- where there is no node to join, nothing is to be relaxed
+  pub none-joined : {P Q : ℕ → Type 0} {Y : ℕ → ℕ → Uses} {k : ℕ} {t : List ℕ} → ((p : ℕ) → p < w → P p → ⊥) → Relaxed k (Joins w P Q Y) t t
+  none-joined none = relaxed-none (λ q c joins. none (joins .0) (joins .2) (joins .4))

@@ -1,6 +1,5 @@
 pub mod Places
 pub mod Leading
-mod Telling
 mod Finding
 mod Steps
 mod Forward

@@ -1,14 +1,16 @@
 -- What the parts of a pair's rules come to: a store at one place, at a pair of nodes, and at what was found. Assumes nothing.
-use mathlib.Core.Path.{_≡_, subst}
+use mathlib.Core.Path.{_≡_, sym, ap, subst, _∙_}
+use mathlib.Core.Logic.{inl, inr}
 use mathlib.Core.List.{List}
 use Prim.Native.Nat.{ℕ, _+_, _*_, _≤_, _<_}
 use native.Mathlib.Omega.{arith}
 use Rattle.levels.specs.Levels.{entry, Uses, Relaxed}
 use Rattle.levels.specs.Passes.{Only, Upto}
-use Rattle.levels.proofs.Relaxing.{relaxed-same, relaxed-none}
+use Rattle.levels.proofs.Relaxing.{relaxed-already, relaxed-same, relaxed-none}
 use Rattle.levels.proofs.Passing.{counts-relaxed}
+use Rattle.tables.specs.Rules.{place}
 use Rattle.tables.specs.Nodes.{Finds}
-use Rattle.tables.specs.Relaxing.{Ready, Inside}
+use Rattle.tables.specs.Relaxing.{Ready, Inside, UsesF}
 
 pub ready-relaxed : {w k : ℕ} {Y : Uses} {t t′ : List ℕ} → Ready w k t → Relaxed k Y t t′ → Ready w k t′
 ready-relaxed ready relaxed =
@@ -26,6 +28,18 @@ relaxed-at {k} {t} {t′} q q′ c c′ from to relaxed =
 -- a loop that has come to its end
 pub relaxed-all : {k : ℕ} {t t′ : List ℕ} (Y : ℕ → Uses) (i w : ℕ) → i ≡ w → Relaxed k (Upto Y i) t t′ → Relaxed k (Upto Y w) t t′
 relaxed-all {k} {t} {t′} Y i w end relaxed = subst (λ (j : ℕ). Relaxed k (Upto Y j) t t′) end relaxed
+
+-- F at a pair of one node twice: each entry is already at most k more than itself
+pub one-node-relaxed : {w x y k : ℕ} {t : List ℕ} → x ≡ y → Relaxed k (UsesF w x y) t t
+one-node-relaxed {w} {x} {y} {k} {t} e =
+    relaxed-already
+    (λ q c either within. elim either [
+      | inl turn ↦ low q c (turn .2 .1 ∙ ap (λ (z : ℕ). place w z (turn .0)) e ∙ sym (turn .2 .0))
+      | inr turn ↦ low q c (turn .2 .1 ∙ ap (place w (turn .0)) (sym e) ∙ sym (turn .2 .0))
+    ])
+  where
+    low : (q c : ℕ) → c ≡ q → entry t c ≤ k + entry t q
+    low q c same = omega (arith, ap (entry t) same)
 
 -- ---- where both numbers are nodes, and where one is not
 

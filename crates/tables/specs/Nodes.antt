@@ -1,15 +1,9 @@
 -- What the slices of a tree say of its nodes: numbers only. Assumes nothing: these are definitions.
-use mathlib.Core.Bool.{Bool, true, false}
 use mathlib.Core.Path.{_≡_}
 use mathlib.Core.List.{List}
 use Prim.Native.Nat.{ℕ, _*_, _≤_, _<_}
 use lib.ListN.{length}
 use Rattle.trees.specs.Tree.{at}
-
--- what a test answers
-abbrev pub Tells : Bool → Type 0 → Type 0
-Tells true P = P
-Tells false P = P → ⊥
 
 -- r is the one number below w of which P is true, and is not below w where there is none
 pub record Finds (w : ℕ) (P : ℕ → Type 0) (r : ℕ) : Type 0 where
@@ -63,6 +57,10 @@ module _ (letters rests : List ℕ) (letter : ℕ) (children : List ℕ) where
 
   abbrev pub Agree : ℕ → Type 0
   Agree w = (p : ℕ) → p < w → Agrees p
+
+-- the word of p begins with the letter; node 0 has none, whatever stands there
+abbrev pub Begins : List ℕ → ℕ → ℕ → Type 0
+Begins letters letter p = (0 < p) × (at letters p ≡ letter)
 
 module _ (w : ℕ) (letters rests : List ℕ) where
   -- the word of the node a is the letter in front of the word of the node p

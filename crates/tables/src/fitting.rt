@@ -3,9 +3,10 @@ use crate::nodes::node;
 use words::Factors;
 ghost use Prim.Native.Nat.{_≤_, _<_};
 ghost use lib.ListN.{length};
+ghost use Rattle.words.specs.Telling.{Tells};
 ghost use Rattle.trees.specs.Tree.{Shape};
 ghost use Rattle.tables.specs.Filling.{Fits};
-ghost use Rattle.tables.specs.Nodes.{Tells, Room, AllBelow, RestsEarlier, Followed, ChildAgrees, RestAgrees, Agrees, Agree, Linked};
+ghost use Rattle.tables.specs.Nodes.{Room, AllBelow, RestsEarlier, Followed, ChildAgrees, RestAgrees, Agrees, Agree, Linked};
 
 // Whether each of the first `many` numbers is below the bound.
 fn all_below(nodes: &[u16], many: usize, bound: usize) -> bool

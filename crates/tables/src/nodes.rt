@@ -3,9 +3,10 @@ use words::widening::wide;
 ghost use mathlib.Core.Path.{_≡_};
 ghost use Prim.Native.Nat.{_+_, _*_, _≤_, _<_};
 ghost use lib.ListN.{length};
+ghost use Rattle.words.specs.Telling.{Tells};
 ghost use Rattle.trees.specs.Tree.{at};
 ghost use Rattle.tables.specs.Rules.{place};
-ghost use Rattle.tables.specs.Nodes.{Finds, Noted, Front};
+ghost use Rattle.tables.specs.Nodes.{Finds, Noted, Begins, Front};
 
 // The number at p of a slice of node numbers.
 pub(crate) fn node(nodes: &[u16], p: usize) -> usize
@@ -30,7 +31,18 @@ pub(crate) fn child(children: &[u16], width: usize, p: usize) -> usize
     c
 }
 
-// The rest of p, where p's word begins with the letter. The letter of node 0 means nothing.
+// Whether p's word begins with the letter. The letter of node 0 means nothing.
+pub(crate) fn begins(letters: &[u8], letter: u8, p: usize) -> bool
+    requires { ⌜ p < length (now letters) ⌝ }
+    ensures { λ r. ⌜ Tells r (Begins (now (letters .entry)) letter p) ⌝ }
+{
+    if p == 0 {
+        return false;
+    }
+    letters[p] == letter
+}
+
+// The rest of p, where p's word begins with the letter.
 pub(crate) fn tail(letters: &[u8], rests: &[u16], width: usize, letter: u8, p: usize) -> usize
     requires { ⌜ width ≤ length (now letters) ⌝ }
     requires { ⌜ width ≤ length (now rests) ⌝ }
@@ -39,10 +51,7 @@ pub(crate) fn tail(letters: &[u8], rests: &[u16], width: usize, letter: u8, p: u
     if width <= p {
         return width;
     }
-    if p == 0 {
-        return width;
-    }
-    if letters[p] == letter {
+    if begins(letters, letter, p) {
         return node(rests, p);
     }
     width

@@ -12,9 +12,10 @@ ghost use mathlib.Core.Bool.{true};
 ghost use mathlib.Core.Path.{_≡_};
 ghost use Prim.Native.Nat.{_+_, _*_, _-_, _≤_, _<_};
 ghost use lib.ListN.{length, replicate};
+ghost use Rattle.words.specs.Telling.{Tells};
 ghost use Rattle.levels.specs.Levels.{Relaxed};
 ghost use Rattle.tables.specs.Rules.{place, Rule};
-ghost use Rattle.tables.specs.Nodes.{Tells, Linked, AllBelow};
+ghost use Rattle.tables.specs.Nodes.{Linked, AllBelow};
 ghost use Rattle.tables.specs.Relaxing.{Ready};
 ghost use Rattle.tables.specs.Levelling.{Visited, Passes, Without, Sought, NextLevel, Starts, Full};
 

@@ -1,6 +1,8 @@
 // The rules in which a pair (x, y) is a premise, relaxed with k, the pair's entry. specs/Rules.antt has the rules.
+use crate::nodes::begins;
 use crate::nodes::cell;
 use crate::nodes::child;
+use crate::nodes::node;
 use crate::nodes::tail;
 use crate::relaxing::lower;
 use crate::relaxing::relax_at;
@@ -10,7 +12,7 @@ ghost use lib.ListN.{length};
 ghost use Rattle.levels.specs.Levels.{Relaxed, Using};
 ghost use Rattle.levels.specs.Passes.{Upto};
 ghost use Rattle.tables.specs.Rules.{place, Rule};
-ghost use Rattle.tables.specs.Nodes.{Children, Linked};
+ghost use Rattle.tables.specs.Nodes.{RestsEarlier, Children, Linked};
 ghost use Rattle.tables.specs.Relaxing.{
   Ready,
   Inside,
@@ -52,7 +54,7 @@ fn relax_in_column(table: &mut [u16], width: usize, x: usize, y: usize, i: usize
     relax_from(table, cell(width, i, x), cell(width, i, y), k);
 }
 
-// F with the pair second: the column of y from the column of x.
+// F with the pair second: the column of y from the column of x. Two rows a turn: one is so little work that the loop costs as much.
 fn relax_column(table: &mut [u16], width: usize, x: usize, y: usize, k: u16)
     requires { ⌜ Ready width k (now table) ⌝ }
     requires { ⌜ x < width ⌝ }
@@ -60,23 +62,32 @@ fn relax_column(table: &mut [u16], width: usize, x: usize, y: usize, k: u16)
     ensures { λ _. ⌜ Relaxed k (Upto (ColumnTurn width x y) width) (now (table .entry)) (now (table .exit)) ⌝ }
 {
     let mut i = 0;
-    while i < width {
+    while i + 1 < width {
         relax_in_column(table, width, x, y, i, k);
-        i += 1;
+        relax_in_column(table, width, x, y, i + 1, k);
+        i += 2;
+    }
+    if i < width {
+        relax_in_column(table, width, x, y, i, k);
+        return;
     }
 }
 
+// F lowers nothing where the pair is of one node twice.
 fn relax_f(table: &mut [u16], width: usize, x: usize, y: usize, k: u16)
     requires { ⌜ Ready width k (now table) ⌝ }
     requires { ⌜ x < width ⌝ }
     requires { ⌜ y < width ⌝ }
     ensures { λ _. ⌜ Relaxed k (UsesF width x y) (now (table .entry)) (now (table .exit)) ⌝ }
 {
+    if x == y {
+        return;
+    }
     relax_row(table, width, x, y, k);
     relax_column(table, width, x, y, k);
 }
 
-// B and G for the letter R.
+// B and G for the letter R. Each leads to a pair of x's child.
 fn relax_r(
     table: &mut [u16],
     width: usize,
@@ -92,11 +103,14 @@ fn relax_r(
     ensures { λ _. ⌜ Relaxed k (UsesR width (now (letters .entry)) (now (rests .entry)) x y) (now (table .entry)) (now (table .exit)) ⌝ }
 {
     let a = child(children_r, width, x);
+    if width <= a {
+        return;
+    }
     relax_at(table, width, a, tail(letters, rests, width, 82, y), k);
     relax_at(table, width, a, child(children_r, width, y), k);
 }
 
-// C, D, and G for the letter S.
+// C, D, and G for the letter S. Each leads to a pair of x's child, or of the child's child.
 fn relax_s(
     table: &mut [u16],
     width: usize,
@@ -112,6 +126,9 @@ fn relax_s(
     ensures { λ _. ⌜ Relaxed k (UsesS width (now (letters .entry)) (now (rests .entry)) x y) (now (table .entry)) (now (table .exit)) ⌝ }
 {
     let a = child(children_s, width, x);
+    if width <= a {
+        return;
+    }
     let b = tail(letters, rests, width, 83, y);
     relax_at(table, width, child(children_s, width, a), b, k);
     relax_at(table, width, a, tail(letters, rests, width, 83, b), k);
@@ -131,14 +148,14 @@ fn relax_triple_in_row(
     requires { ⌜ Ready width k (now table) ⌝ }
     requires { ⌜ width ≤ length (now letters) ⌝ }
     requires { ⌜ width ≤ length (now rests) ⌝ }
+    requires { ⌜ RestsEarlier (now rests) width ⌝ }
     requires { ⌜ a < width ⌝ }
     requires { ⌜ v < width ⌝ }
     requires { ⌜ b < width ⌝ }
     ensures { λ _. ⌜ Relaxed k (TripleRowTurn width (now (letters .entry)) (now (rests .entry)) a v b) (now (table .entry)) (now (table .exit)) ⌝ }
 {
-    let t = tail(letters, rests, width, 83, b);
-    if t < width {
-        relax_from(table, cell(width, v, b), cell(width, a, t), k);
+    if begins(letters, 83, b) {
+        relax_from(table, cell(width, v, b), cell(width, a, node(rests, b)), k);
     }
 }
 
@@ -155,6 +172,7 @@ fn relax_triple_row(
     requires { ⌜ Ready width k (now table) ⌝ }
     requires { ⌜ width ≤ length (now letters) ⌝ }
     requires { ⌜ width ≤ length (now rests) ⌝ }
+    requires { ⌜ RestsEarlier (now rests) width ⌝ }
     ensures { λ _. ⌜ Relaxed k (Inside width a v (TripleRow width (now (letters .entry)) (now (rests .entry)))) (now (table .entry)) (now (table .exit)) ⌝ }
 {
     if width <= a {
@@ -183,14 +201,14 @@ fn relax_triple_in_column(
     requires { ⌜ Ready width k (now table) ⌝ }
     requires { ⌜ width ≤ length (now letters) ⌝ }
     requires { ⌜ width ≤ length (now rests) ⌝ }
+    requires { ⌜ RestsEarlier (now rests) width ⌝ }
     requires { ⌜ v < width ⌝ }
     requires { ⌜ t < width ⌝ }
     requires { ⌜ a < width ⌝ }
     ensures { λ _. ⌜ Relaxed k (TripleColumnTurn width (now (letters .entry)) (now (rests .entry)) v t a) (now (table .entry)) (now (table .exit)) ⌝ }
 {
-    let u = tail(letters, rests, width, 83, a);
-    if u < width {
-        relax_from(table, cell(width, u, v), cell(width, a, t), k);
+    if begins(letters, 83, a) {
+        relax_from(table, cell(width, node(rests, a), v), cell(width, a, t), k);
     }
 }
 
@@ -207,6 +225,7 @@ fn relax_triple_column(
     requires { ⌜ Ready width k (now table) ⌝ }
     requires { ⌜ width ≤ length (now letters) ⌝ }
     requires { ⌜ width ≤ length (now rests) ⌝ }
+    requires { ⌜ RestsEarlier (now rests) width ⌝ }
     ensures { λ _. ⌜ Relaxed k (Inside width v t (TripleColumn width (now (letters .entry)) (now (rests .entry)))) (now (table .entry)) (now (table .exit)) ⌝ }
 {
     if width <= v {
@@ -238,6 +257,9 @@ fn relax_e(
     ensures { λ _. ⌜ Relaxed k (UsesE width (now (letters .entry)) (now (rests .entry)) x y) (now (table .entry)) (now (table .exit)) ⌝ }
 {
     let a = child(children_s, width, x);
+    if width <= a {
+        return;
+    }
     let b = tail(letters, rests, width, 83, y);
     relax_triple_row(table, width, letters, rests, a, b, k);
     relax_triple_column(table, width, letters, rests, a, b, k);

@@ -1,5 +1,4 @@
 -- Ends that each do not fall below the one before never fall. Assumes nothing.
-use mathlib.Core.Bool.{Bool, true, false}
 use mathlib.Core.Path.{_≡_, ap, _∙_}
 use mathlib.Core.List.{List}
 use Prim.Native.Nat.{ℕ, zero, suc, _+_, _-_, _≤_, _<_, zero-le}
@@ -10,12 +9,7 @@ use native.Mathlib.Omega.{arith}
 use lib.ListN.{length}
 use Rattle.trees.specs.Tree.{at}
 use Rattle.trees.specs.Building.{Fits}
-use Rattle.trees.specs.Ends.{endBefore, EndsFit, Tells}
-
--- a test of P is a test of whatever holds exactly where P does
-pub tells-as : {P Q : Type 0} (b : Bool) → (P → Q) → (Q → P) → Tells P b → Tells Q b
-tells-as true there back t = there t
-tells-as false there back t = λ q. t (back q)
+use Rattle.trees.specs.Ends.{endBefore, EndsFit}
 
 pub end-before-first : (ends : List ℕ) (i : ℕ) → i ≡ 0 → endBefore ends i ≡ 0
 end-before-first ends i e = ap (endBefore ends) e

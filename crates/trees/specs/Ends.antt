@@ -1,5 +1,4 @@
--- The ends of a list's generators, and a test of what they must be. Assumes nothing: these are definitions.
-use mathlib.Core.Bool.{Bool, true, false}
+-- The ends of a list's generators, and what they must be. Assumes nothing: these are definitions.
 use mathlib.Core.List.{List, _∷_}
 use Prim.Native.Nat.{ℕ, _≤_, _<_}
 use lib.ListN.{length}
@@ -16,8 +15,3 @@ pub record EndFits (ends : List ℕ) (limit i : ℕ) : Type 0 where
 
 abbrev pub EndsFit : List ℕ → ℕ → Type 0
 EndsFit ends limit = (i : ℕ) → i < length ends → EndFits ends limit i
-
--- a test that tells whether P holds
-abbrev pub Tells : Type 0 → Bool → Type 0
-Tells P true = P
-Tells P false = P → ⊥

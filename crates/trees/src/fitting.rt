@@ -2,9 +2,10 @@
 ghost use mathlib.Core.Path.{_≡_};
 ghost use Prim.Native.Nat.{_≤_, _<_};
 ghost use lib.ListN.{length};
+ghost use Rattle.words.specs.Telling.{Tells};
 ghost use Rattle.trees.specs.Tree.{at};
 ghost use Rattle.trees.specs.Building.{Fits};
-ghost use Rattle.trees.specs.Ends.{endBefore, EndFits, EndsFit, Tells};
+ghost use Rattle.trees.specs.Ends.{endBefore, EndFits, EndsFit};
 
 // The number at a place.
 pub(crate) fn entry(numbers: &[u16], i: usize) -> usize
@@ -27,7 +28,7 @@ pub(crate) fn end_before(ends: &[u16], i: usize) -> usize
 
 fn end_fits(ends: &[u16], i: usize, limit: usize) -> bool
     requires { ⌜ i < length (now ends) ⌝ }
-    ensures { λ r. ⌜ Tells (EndFits (now (ends .entry)) limit i) r ⌝ }
+    ensures { λ r. ⌜ Tells r (EndFits (now (ends .entry)) limit i) ⌝ }
 {
     let end = entry(ends, i);
     if limit < end {
@@ -41,7 +42,7 @@ fn end_fits(ends: &[u16], i: usize, limit: usize) -> bool
 }
 
 fn ends_fit(ends: &[u16], limit: usize) -> bool
-    ensures { λ r. ⌜ Tells (EndsFit (now (ends .entry)) limit) r ⌝ }
+    ensures { λ r. ⌜ Tells r (EndsFit (now (ends .entry)) limit) ⌝ }
 {
     let mut i = 0;
     while i < ends.len() {
@@ -63,10 +64,9 @@ pub(crate) fn fits(
     children_s: &[u16],
     wholes: &[u16],
 ) -> bool
-    ensures { λ r. ⌜ Tells
+    ensures { λ r. ⌜ Tells r
         (Fits (now (bytes .entry)) (now (ends .entry)) (now (letters .entry)) (now (rests .entry))
-        (now («children_r» .entry)) (now («children_s» .entry)) (now (wholes .entry)))
-        r ⌝ }
+        (now («children_r» .entry)) (now («children_s» .entry)) (now (wholes .entry))) ⌝ }
 {
     if 65535 <= bytes.len() {
         return false;

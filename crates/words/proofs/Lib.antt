@@ -6,6 +6,7 @@ pub mod Slices
 pub mod Asking
 pub mod Answering
 pub mod FirstOther
+pub mod Telling
 mod Parts
 mod Stack
 mod Arriving

@@ -1,5 +1,5 @@
 -- A normal word by its parts: what the first letters say of it, and what is then left to test. Assumes nothing.
-use mathlib.Core.Bool.{Bool, true, false}
+use mathlib.Core.Bool.{Bool}
 use mathlib.Core.Path.{_≡_, sym, ap, subst, _∙_}
 use mathlib.Core.List.{List, [], _∷_}
 use Prim.Native.Nat.{ℕ, suc, _+_, _<_}
@@ -8,8 +8,10 @@ use lib.ListN.{length, drop, getD}
 use lib.Seq.{drop-cons, drop-length}
 use Rattle.words.specs.Word.{Letter, R, S, Word, Normal}
 use Rattle.words.specs.Bytes.{letter, word}
-use Rattle.words.specs.Parts.{Decides, NotFirst, FromRPart, FromSPart}
+use Rattle.words.specs.Telling.{Tells}
+use Rattle.words.specs.Parts.{NotFirst, FromRPart, FromSPart}
 use Rattle.words.proofs.Bytes.{letter-r, letter-s}
+use Rattle.words.proofs.Telling.{tells-same}
 use Rattle.words.proofs.Reduced.{normal-of-reduced, reduced-of-normal, normal-tail}
 
 -- ---- the word from a place on, by the byte there
@@ -27,10 +29,6 @@ pub rest-none : (w : List ℕ) (at : ℕ) → at ≡ length w → word (drop at 
 rest-none w at e = ap (λ (n : ℕ). word (drop n w)) e ∙ ap word (drop-length w)
 
 -- ---- what the first letters leave to test
-
-decides-same : {P Q : Type 0} (b : Bool) → (P → Q) → (Q → P) → Decides b P → Decides b Q
-decides-same true to from d = to d
-decides-same false to from d = λ q. d (from q)
 
 normal-r : (w : Word) → Normal w → NotFirst R w → Normal (R ∷ w)
 normal-r [] n f = normal-of-reduced (R ∷ []) tt
@@ -71,27 +69,27 @@ pub not-from-s : {x y : Word} → x ≡ R ∷ y → FromSPart x → ⊥
 not-from-s e p = subst (NotFirst R) e (p .1)
 
 module _ (b : Bool) {x : Word} where
-  pub r-then : (w : Word) → x ≡ R ∷ w → Decides b (FromSPart w) → Decides b (FromRPart x)
+  pub r-then : (w : Word) → x ≡ R ∷ w → Tells b (FromSPart w) → Tells b (FromRPart x)
   r-then w e d =
-      subst (λ (v : Word). Decides b (FromRPart v)) (sym e)
-      (decides-same b (λ p. (normal-r w (p .0) (p .1), tt)) (λ p. (normal-tail R w (p .0), normal-r-first w (p .0))) d)
+      subst (λ (v : Word). Tells b (FromRPart v)) (sym e)
+      (tells-same b (λ p. (normal-r w (p .0) (p .1), tt)) (λ p. (normal-tail R w (p .0), normal-r-first w (p .0))) d)
 
-  pub s-then-r : (w : Word) → x ≡ S ∷ R ∷ w → Decides b (FromRPart (R ∷ w)) → Decides b (FromSPart x)
+  pub s-then-r : (w : Word) → x ≡ S ∷ R ∷ w → Tells b (FromRPart (R ∷ w)) → Tells b (FromSPart x)
   s-then-r w e d =
-      subst (λ (v : Word). Decides b (FromSPart v)) (sym e)
-      (decides-same b
+      subst (λ (v : Word). Tells b (FromSPart v)) (sym e)
+      (tells-same b
       (λ p. (normal-of-reduced (S ∷ R ∷ w) (reduced-of-normal (R ∷ w) (p .0)), tt))
       (λ p. (normal-tail S (R ∷ w) (p .0), tt)) d)
 
-  pub ss-then : (w : Word) → x ≡ S ∷ S ∷ w → Decides b (FromRPart w) → Decides b (FromSPart x)
+  pub ss-then : (w : Word) → x ≡ S ∷ S ∷ w → Tells b (FromRPart w) → Tells b (FromSPart x)
   ss-then w e d =
-      subst (λ (v : Word). Decides b (FromSPart v)) (sym e)
-      (decides-same b
+      subst (λ (v : Word). Tells b (FromSPart v)) (sym e)
+      (tells-same b
       (λ p. (normal-ss w (p .0) (p .1), tt))
       (λ p. (normal-tail S w (normal-tail S (S ∷ w) (p .0)), normal-ss-first w (p .0))) d)
 
-  pub normal-by-r : (w : Word) → x ≡ R ∷ w → Decides b (FromRPart x) → Decides b (Normal x)
-  normal-by-r w e d = decides-same b (λ p. p .0) (λ n. (n, subst (NotFirst S) (sym e) tt)) d
+  pub normal-by-r : (w : Word) → x ≡ R ∷ w → Tells b (FromRPart x) → Tells b (Normal x)
+  normal-by-r w e d = tells-same b (λ p. p .0) (λ n. (n, subst (NotFirst S) (sym e) tt)) d
 
-  pub normal-by-s : (w : Word) → x ≡ S ∷ w → Decides b (FromSPart x) → Decides b (Normal x)
-  normal-by-s w e d = decides-same b (λ p. p .0) (λ n. (n, subst (NotFirst R) (sym e) tt)) d
+  pub normal-by-s : (w : Word) → x ≡ S ∷ w → Tells b (FromSPart x) → Tells b (Normal x)
+  normal-by-s w e d = tells-same b (λ p. p .0) (λ n. (n, subst (NotFirst R) (sym e) tt)) d

@@ -1,13 +1,7 @@
 -- What the two functions that test normality promise. Document 01: "An R part is followed by an S part or nothing, an S part by an R
 -- part or nothing; an R part is one R and an S part is S or SS." Assumes nothing: these are definitions.
-use mathlib.Core.Bool.{Bool, true, false}
 use mathlib.Core.List.{[], _∷_}
 use Rattle.words.specs.Word.{Letter, R, S, Word, Normal}
-
--- the answer of a test of P
-abbrev pub Decides : Bool → Type 0 → Type 0
-Decides true P = P
-Decides false P = P → ⊥
 
 -- w does not begin with the letter
 abbrev pub NotFirst : Letter → Word → Type 0

@@ -4,12 +4,13 @@ ghost use Prim.Native.Nat.{_≤_};
 ghost use lib.ListN.{length, drop};
 ghost use Rattle.words.specs.Word.{Normal};
 ghost use Rattle.words.specs.Bytes.{word as wordOf};
-ghost use Rattle.words.specs.Parts.{Decides, FromRPart, FromSPart};
+ghost use Rattle.words.specs.Telling.{Tells};
+ghost use Rattle.words.specs.Parts.{FromRPart, FromSPart};
 
 // Is the word from `at` on normal?
 pub(crate) fn normal_from(word: &[u8], at: usize) -> bool
     requires { ⌜ at ≤ length (now word) ⌝ }
-    ensures { λ r. ⌜ Decides r (Normal (wordOf (drop at (now (word .entry))))) ⌝ }
+    ensures { λ r. ⌜ Tells r (Normal (wordOf (drop at (now (word .entry))))) ⌝ }
 {
     if at == word.len() {
         return true;
@@ -23,7 +24,7 @@ pub(crate) fn normal_from(word: &[u8], at: usize) -> bool
 // Is the word from `at` on nothing, or an R part and then nothing or a normal word that begins with an S part?
 fn from_r_part(word: &[u8], at: usize) -> bool
     requires { ⌜ at ≤ length (now word) ⌝ }
-    ensures { λ r. ⌜ Decides r (FromRPart (wordOf (drop at (now (word .entry))))) ⌝ }
+    ensures { λ r. ⌜ Tells r (FromRPart (wordOf (drop at (now (word .entry))))) ⌝ }
 {
     if at == word.len() {
         return true;
@@ -37,7 +38,7 @@ fn from_r_part(word: &[u8], at: usize) -> bool
 // Is the word from `at` on nothing, or an S part and then nothing or a normal word that begins with an R part?
 fn from_s_part(word: &[u8], at: usize) -> bool
     requires { ⌜ at ≤ length (now word) ⌝ }
-    ensures { λ r. ⌜ Decides r (FromSPart (wordOf (drop at (now (word .entry))))) ⌝ }
+    ensures { λ r. ⌜ Tells r (FromSPart (wordOf (drop at (now (word .entry))))) ⌝ }
 {
     if at == word.len() {
         return true;

@@ -1,8 +1,11 @@
 // The questions at the door that concern words. `specs/Questions.antt` has each question; a call puts its own in rising order.
 use crate::Asked;
 use crate::Refusal;
+ghost use mathlib.Core.Bool.{true};
 ghost use mathlib.Core.Path.{_≡_};
+ghost use Prim.Native.Nat.{_≤_};
 ghost use lib.ListN.{length};
+ghost use Rattle.words.specs.Telling.{Tells};
 ghost use Rattle.words.specs.Questions.{isLetter, firstOther, ofLetters, ofWord, number as numberOf, place as placeOf};
 
 fn is_letter(b: u8) -> bool
@@ -15,8 +18,31 @@ fn is_letter(b: u8) -> bool
     }
 }
 
+// Whether every byte so far was a letter, and this one is too.
+fn letter_too(so_far: bool, b: u8) -> bool
+    ensures { λ r. ⌜ Tells r ((«so_far» ≡ true) × (isLetter b ≡ true)) ⌝ }
+{
+    if is_letter(b) {
+        return so_far;
+    }
+    false
+}
+
+// Whether every byte is a letter. No early end, so that the loop runs on many bytes at once.
+fn all_letters(word: &[u8]) -> bool
+    ensures { λ r. ⌜ Tells r (length (now (word .entry)) ≤ firstOther (now (word .entry))) ⌝ }
+{
+    let mut all = true;
+    let mut i = 0;
+    while i < word.len() {
+        all = letter_too(all, word[i]);
+        i += 1;
+    }
+    all
+}
+
 // The index of the first byte that is no letter, or the length where each byte is one.
-pub fn first_other(word: &[u8]) -> usize
+fn find_other(word: &[u8]) -> usize
     ensures { λ r. ⌜ r ≡ firstOther (now (word .entry)) ⌝ }
 {
     let mut i = 0;
@@ -28,6 +54,16 @@ pub fn first_other(word: &[u8]) -> usize
         }
     }
     i
+}
+
+// The same. Most words have only letters, which `all_letters` tells sooner.
+pub fn first_other(word: &[u8]) -> usize
+    ensures { λ r. ⌜ r ≡ firstOther (now (word .entry)) ⌝ }
+{
+    if all_letters(word) {
+        return word.len();
+    }
+    find_other(word)
 }
 
 // Questions 8 and 10 of a single word.

@@ -1,12 +1,10 @@
 -- The answer of the test goes by what the questions say. Assumes nothing.
-use mathlib.Core.Bool.{Bool}
 use mathlib.Core.Path.{refl, sym, subst, _∙_}
-use Rattle.words.specs.Word.{Normal}
 use Rattle.words.specs.Bytes.{word as wordOf}
-use Rattle.words.specs.Parts.{Decides}
 use Rattle.words.specs.Calls.{TestedRight}
 use Rattle.words.specs.declared.Asked.{Asked}
 use Rattle.words.specs.declared.Tested.the-variants.{Normal as Tested·Normal, NotNormal, Refused as Tested·Refused}
+use Rattle.words.proofs.Telling.{told, told-not}
 use borrow.Author.Needs.{needs}
 use Rattle.words.proofs.is_normal.Statement.{statement}
 use Rattle.words.proofs.is_normal.Tie as tie
@@ -32,13 +30,13 @@ returns-2 : tie.Need-returns-2
 returns-2 c =
     let w = c .before .before .before .before .before .before .args .word .now in
     subst (λ (q : Asked). TestedRight q (wordOf w) Tested·Normal) (sym (c .before .before .enum-told .given .1) ∙ c .before .before .before .before .of-letters .ensures)
-    (subst (λ (b : Bool). Decides b (Normal (wordOf w))) (c .if1 .taken) (c .before .normal-from .ensures))
+    (told _ (c .if1 .taken) (c .before .normal-from .ensures))
 
 returns-3 : tie.Need-returns-3
 returns-3 c =
     let w = c .before .before .before .before .before .before .args .word .now in
     subst (λ (q : Asked). TestedRight q (wordOf w) NotNormal) (sym (c .before .before .enum-told .given .1) ∙ c .before .before .before .before .of-letters .ensures)
-    (subst (λ (b : Bool). Decides b (Normal (wordOf w))) (c .if1 .left) (c .before .normal-from .ensures))
+    (told-not _ (c .if1 .left) (c .before .normal-from .ensures))
 
 pub is-normal-spec : {M : Type 1} → statement M
 is-normal-spec =

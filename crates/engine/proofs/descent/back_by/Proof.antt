@@ -2,7 +2,7 @@
 use mathlib.Core.Path.{refl}
 use mathlib.Core.List.{[], _∷_}
 use Rattle.engine.specs.Descent.{chain}
-use Rattle.engine.proofs.Answers.{tells-yes, tells-no}
+use Rattle.words.proofs.Telling.{told, told-not}
 use Rattle.engine.proofs.Stacked.{stacked-push}
 use Rattle.engine.proofs.Descending.{back-read, back-chain, chained}
 use borrow.Author.Needs.{needs}
@@ -19,13 +19,13 @@ is-read-requires c κs =
     (p .1 .1 .0 .0, omega (arith, c .entry .ensures .0, p .0 .inside _ (p .1 .1 .0 .0)), p .1 .1 .0 .1)
 
 returns : tie.Need-returns
-returns c = ([], back-read (c .before .before .entry .ensures .0) (tells-yes _ (c .if1 .taken) (c .before .is-read .ensures)), refl)
+returns c = ([], back-read (c .before .before .entry .ensures .0) (told _ (c .if1 .taken) (c .before .is-read .ensures)), refl)
 
 find-chain-requires : tie.Need-find-chain-requires
 find-chain-requires c κs =
     let p = c .before .before .before .before .before .before .before .before .pre in
     let b = p .1 .1 .1 .1 .0 in
-    let t = chained (c .before .before .entry .ensures .0) (tells-no _ (c .if1 .left) (c .before .is-read .ensures)) (b .0) (b .1) (b .2) in
+    let t = chained (c .before .before .entry .ensures .0) (told-not _ (c .if1 .left) (c .before .is-read .ensures)) (b .0) (b .1) (b .2) in
     (p .0, (p .1 .0, ((p .1 .1 .0 .0, p .1 .1 .0 .1), t)))
 
 put-pair-requires : tie.Need-put-pair-requires

@@ -4,8 +4,8 @@ use Rattle.trees.specs.Tree.{at}
 use Rattle.tables.specs.Rules.{place}
 use Prim.Native.Nat.{ℕ, _+_, _≤_}
 use native.Mathlib.Nat.{mul-le-mul-left}
-use Rattle.engine.specs.Descent.{Chain}
-use Rattle.engine.proofs.Answers.{tells-equal, positive}
+use Rattle.words.proofs.Telling.{tells-eqb}
+use Rattle.engine.proofs.Answers.{positive}
 use borrow.Author.Needs.{needs}
 use native.Mathlib.Omega.{arith}
 use Rattle.engine.proofs.descent.is_chain.Statement.{statement}
@@ -46,7 +46,7 @@ returns-2 c =
     let before = c .before .cell2 in
     let pair = c .pair-entry in
     let second = before .ensures .0 ∙ ap (λ (q : ℕ). at (a .rows .now) (place (a .count) (a .i) q)) child in
-    tells-equal (Chain (a .count) (a .children .now) (a .table .now) (a .rows .now) (a .i) (a .q) (a .v)) (last .result) (before .result + pair .result)
+    tells-eqb (last .result) (before .result + pair .result)
     (λ e.
     record {
       node = start .pre .1 .1 .1;

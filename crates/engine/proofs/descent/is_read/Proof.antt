@@ -1,8 +1,8 @@
 -- Whether the letter is read at the node with an entry that is the same. Assumes nothing.
 use Prim.Native.Nat.{_≤_}
 use native.Mathlib.Nat.{mul-le-mul-left}
-use Rattle.engine.specs.Descent.{Read}
-use Rattle.engine.proofs.Answers.{tells-equal, positive}
+use Rattle.words.proofs.Telling.{tells-eqb}
+use Rattle.engine.proofs.Answers.{positive}
 use borrow.Author.Needs.{needs}
 use native.Mathlib.Omega.{arith}
 use Rattle.engine.proofs.descent.is_read.Statement.{statement}
@@ -28,7 +28,7 @@ returns-2 c =
     let a = c .before .before .before .before .args in
     let first = c .before .cell .ensures .0 in
     let second = c .cell2 .ensures .0 in
-    tells-equal (Read (a .count) (a .rows .now) (a .i) (a .q) (a .c)) (c .before .cell .result) (c .cell2 .result)
+    tells-eqb (c .before .cell .result) (c .cell2 .result)
     (λ e. record { some = positive _ (c .before .before .if1 .left); same = omega (arith, e, first, second) })
     (λ t. omega (arith, t .same, first, second))
 

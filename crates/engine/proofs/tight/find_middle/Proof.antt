@@ -2,7 +2,7 @@
 use Prim.Native.Nat.{ℕ, _-_, _≤_, _<_}
 use borrow.Author.Count.{below-none, below-more}
 use Rattle.engine.specs.Tight.{Middle}
-use Rattle.engine.proofs.Answers.{tells-yes, tells-no}
+use Rattle.words.proofs.Telling.{told, told-not}
 use borrow.Author.Needs.{needs}
 use native.Mathlib.Omega.{arith}
 use Rattle.engine.proofs.tight.find_middle.Statement.{statement}
@@ -21,7 +21,7 @@ is-middle-requires : tie.Need-is-middle-requires Inv-loop μ-loop
 is-middle-requires c κs = search needs
 
 returns : tie.Need-returns Inv-loop μ-loop
-returns c = (c .before .before .loop-test .taken, tells-yes _ (c .if1 .taken) (c .before .is-middle .ensures))
+returns c = (c .before .before .loop-test .taken, told _ (c .if1 .taken) (c .before .is-middle .ensures))
 
 add-v : tie.Need-add-v Inv-loop μ-loop
 add-v c = omega arith
@@ -30,7 +30,7 @@ loop-less : tie.Need-loop-less Inv-loop μ-loop
 loop-less c = omega arith
 
 loop-again : tie.Need-loop-again Inv-loop μ-loop
-loop-again c = (omega arith, below-more _ _ (c .before .before .before .loop .inv .1) (tells-no _ (c .if1 .left) (c .before .is-middle .ensures)))
+loop-again c = (omega arith, below-more _ _ (c .before .before .before .loop .inv .1) (told-not _ (c .if1 .left) (c .before .is-middle .ensures)))
 
 returns-2 : tie.Need-returns-2 Inv-loop μ-loop
 returns-2 c = λ v t. c .before .loop .inv .1 v (omega (arith, t .0, c .loop-test .left)) (t .1)

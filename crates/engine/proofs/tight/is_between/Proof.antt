@@ -1,7 +1,6 @@
 -- The sum that rule F asks. Assumes nothing.
 use Prim.Native.Nat.{_+_}
-use Rattle.engine.specs.Tight.{TightF}
-use Rattle.engine.proofs.Answers.{tells-equal}
+use Rattle.words.proofs.Telling.{tells-eqb}
 use borrow.Author.Needs.{needs}
 use native.Mathlib.Omega.{arith}
 use Rattle.engine.proofs.tight.is_between.Statement.{statement}
@@ -25,7 +24,7 @@ returns c =
     let first = c .before .before .pair-entry in
     let second = c .before .pair-entry2 in
     let third = c .pair-entry3 in
-    tells-equal (TightF (a .count) (a .table .now) (a .x) (a .y) (a .v)) (first .result) (second .result + third .result)
+    tells-eqb (first .result) (second .result + third .result)
     (λ e. record { node = c .before .before .before .before .pre .1 .2; sum = omega (arith, e, first .ensures .0, second .ensures .0, third .ensures .0) })
     (λ t. omega (arith, t .sum, first .ensures .0, second .ensures .0, third .ensures .0))
 

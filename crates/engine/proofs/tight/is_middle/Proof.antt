@@ -3,8 +3,8 @@ use mathlib.Core.Path.{refl, ap, _∙_}
 use Prim.Native.Nat.{ℕ, _+_}
 use Rattle.trees.specs.Tree.{at}
 use Rattle.tables.specs.Rules.{place}
-use Rattle.engine.specs.Tight.{Middle}
-use Rattle.engine.proofs.Answers.{tells-equal, names-at, names-none}
+use Rattle.words.proofs.Telling.{tells-eqb}
+use Rattle.engine.proofs.Answers.{names-at, names-none}
 use borrow.Author.Needs.{needs}
 use native.Mathlib.Omega.{arith}
 use Rattle.engine.proofs.tight.is_middle.Statement.{statement}
@@ -41,8 +41,7 @@ returns-2 c =
     let r = names-at _ (at-w .w .given .1) (at-w .before .before .rest-by .ensures) in
     let first = c .before .pair-entry .ensures .0 in
     let second = c .pair-entry2 .ensures .0 ∙ ap (λ (w : ℕ). at (a .table .now) (place (a .count) w (a .b))) (r .1) in
-    tells-equal (Middle (a .count) (a .letters .now) (a .rests .now) (a .table .now) (a .k) (a .a) (a .b) (a .v))
-    (a .k) (c .before .pair-entry .result + c .pair-entry2 .result)
+    tells-eqb (a .k) (c .before .pair-entry .result + c .pair-entry2 .result)
     (λ e. (r .0, omega (arith, e, first, second))) (λ h. omega (arith, h .1, first, second))
 
 pub is-middle-spec : {M : Type 1} → statement M

@@ -1,6 +1,6 @@
 -- What rule A asks of a generator. Assumes nothing.
 use mathlib.Core.Path.{sym, _∙_}
-use Rattle.engine.proofs.Answers.{tells-equal}
+use Rattle.words.proofs.Telling.{tells-eqb}
 use borrow.Author.Needs.{needs}
 use Rattle.engine.proofs.tight.is_whole.Statement.{statement}
 use Rattle.engine.proofs.tight.is_whole.Tie as tie
@@ -20,7 +20,7 @@ pair-entry-requires c κs = search needs
 returns-3 : tie.Need-returns-3
 returns-3 c =
     let first = c .pair-entry .ensures .0 in
-    tells-equal _ _ _
+    tells-eqb _ _
     (λ e.
     record {
       factor = c .before .before .before .before .before .before .pre .1 .2;

@@ -3,7 +3,7 @@ use Prim.Native.Nat.{ℕ, _-_, _≤_, _<_}
 use lib.ListN.{length}
 use borrow.Author.Count.{below-none, below-more}
 use Rattle.engine.specs.Tight.{TightA}
-use Rattle.engine.proofs.Answers.{tells-yes, tells-no}
+use Rattle.words.proofs.Telling.{told, told-not}
 use native.Mathlib.Omega.{arith}
 use Rattle.engine.proofs.tight.rule_a.Statement.{statement}
 use Rattle.engine.proofs.tight.rule_a.Tie as tie
@@ -21,7 +21,7 @@ is-whole-requires : tie.Need-is-whole-requires Inv-loop μ-loop
 is-whole-requires c κs = let p = c .before .before .before .before .pre in (p .0, (p .1 .0, p .1 .1, c .loop-test .taken))
 
 returns : tie.Need-returns Inv-loop μ-loop
-returns c = tells-yes _ (c .if1 .taken) (c .before .is-whole .ensures)
+returns c = told _ (c .if1 .taken) (c .before .is-whole .ensures)
 
 add-j : tie.Need-add-j Inv-loop μ-loop
 add-j c = omega arith
@@ -30,7 +30,7 @@ loop-less : tie.Need-loop-less Inv-loop μ-loop
 loop-less c = omega arith
 
 loop-again : tie.Need-loop-again Inv-loop μ-loop
-loop-again c = (omega arith, below-more _ _ (c .before .before .before .loop .inv .1) (tells-no _ (c .if1 .left) (c .before .is-whole .ensures)))
+loop-again c = (omega arith, below-more _ _ (c .before .before .before .loop .inv .1) (told-not _ (c .if1 .left) (c .before .is-whole .ensures)))
 
 returns-2 : tie.Need-returns-2 Inv-loop μ-loop
 returns-2 c = λ j t. c .before .loop .inv .1 j (omega (arith, t .factor, c .loop-test .left)) t

@@ -7,7 +7,8 @@ use borrow.Author.Tests.{le-leb, lt-leb}
 use Rattle.words.specs.Questions.{firstOther}
 use Rattle.words.specs.declared.Refusal.the-variants.{NotALetter}
 use Rattle.words.proofs.Asking.{asks-yes, asks-no}
-use Rattle.lists.proofs.FirstOthers.{first-other-within, first-other-front, first-other-behind}
+use Rattle.words.proofs.FirstOther.{first-other-within}
+use Rattle.lists.proofs.FirstOthers.{first-other-front, first-other-behind}
 use native.Mathlib.Omega.{arith}
 use borrow.Author.Needs.{needs}
 use Rattle.lists.proofs.ends.of_all_letters.Statement.{statement}

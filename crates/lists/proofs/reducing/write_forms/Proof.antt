@@ -1,9 +1,9 @@
 -- The normal forms of the first i generators, none of them too long, are written, one behind the other, with their ends. Assumes nothing.
 use mathlib.Core.Path.{_≡_, refl, ap, _∙_}
-use mathlib.Core.List.{List, []}
+use mathlib.Core.List.{List, [], _∷_}
 use Prim.Native.Nat.{ℕ, _+_, _-_, _≤_, _<_}
 use native.Mathlib.Omega.{arith}
-use lib.ListN.{length, drop, length-set, drop-of-length-le}
+use lib.ListN.{length, take, drop, length-set, drop-of-length-le}
 use lib.Seq.{slice}
 use Rattle.words.specs.Word.{nf}
 use Rattle.words.specs.Bytes.{word, bytes as bytesOf}
@@ -63,6 +63,33 @@ normal-form-requires c κs =
       ),
     )
 
+-- ---- once the generator at hand is reduced behind the forms that are written
+
+abbrev Formed : Type 0
+Formed = tie.After-normal-form Inv-loop μ-loop
+
+abbrev start : Formed → tie.Start Inv-loop μ-loop
+start c = c .before .before .before .before .before .before .before .before .before .before
+
+abbrev turn : Formed → tie.At-loop Inv-loop μ-loop
+turn c = c .before .before .before .before .before
+
+abbrev end : Formed → ℕ
+end c = c .before .before .wide .result
+
+next : (c : Formed) → generatorsFrom (start c .args .bytes .now) (turn c .loop .from) (drop (turn c .loop .i) (start c .args .ends .now))
+    ≡ word (slice (turn c .loop .from) (end c) (start c .args .bytes .now)) ∷ generatorsFrom (start c .args .bytes .now) (end c) (drop (turn c .loop .i + 1) (start c .args .ends .now))
+next c = generators-next (start c .args .bytes .now) (start c .args .ends .now) (turn c .loop .from) (turn c .loop .i) (omega arith) (c .before .before .wide .ensures)
+
+room : (c : Formed) → turn c .loop .sum ≤ length (turn c .loop .out)
+room c = let l = turn c .loop in omega (arith, start c .pre .1 .0, l .inv .2, l .inv .4)
+
+-- what is written stays where the new form is too long
+kept : (c : Formed) → take (turn c .loop .sum) (c .normal-form .last .1 .1 .1 .0) ≡ take (turn c .loop .sum) (turn c .loop .out)
+kept c =
+    letters-kept (turn c .loop .out) (bytesOf (nf (word (slice (turn c .loop .from) (end c) (start c .args .bytes .now))))) (turn c .loop .sum) (c .normal-form .result)
+    (c .normal-form .ensures .1) (room c)
+
 same-length : tie.Need-same-length Inv-loop μ-loop
 same-length c = search needs
 
@@ -71,19 +98,10 @@ same-length-2 c = search needs
 
 returns : tie.Need-returns Inv-loop μ-loop
 returns c =
-    let l = c .before .before .before .before .before .before .before .before .loop in
-    let a = c .before .before .before .before .before .before .before .before .before .before .before .before .before .args in
-    let p = c .before .before .before .before .before .before .before .before .before .before .before .before .before .pre in
-    let bytes = a .bytes .now in
-    let ends = a .ends .now in
-    let end = c .before .before .before .before .before .wide .ensures in
-    let n = c .before .before .before .normal-form in
-    let here : l .i < length ends = omega arith in
-    let next = generators-next bytes ends (l .from) (l .i) here end in
+    let formed = c .before .before .before in
+    let l = turn formed .loop in
     let f = l .inv .6 in
-    let room : l .sum ≤ length (l .out) = omega (arith, p .1 .0, l .inv .2, l .inv .4) in
-    let letters = letters-kept (l .out) (bytesOf (nf (word (slice (l .from) (c .before .before .before .before .before .wide .result) bytes)))) (l .sum) (n .result) (n .ensures .1) room ∙ f .letters in
-    (omega (arith, l .inv .5, long-form (l .sum) _ _ next (n .ensures .0) (c .if1 .taken)), ((l .inv .4, f .sums), (letters, f .ends-is)))
+    (omega (arith, l .inv .5, long-form (l .sum) _ _ (next formed) (formed .normal-form .ensures .0) (c .if1 .taken)), ((l .inv .4, f .sums), (kept formed ∙ f .letters, f .ends-is)))
 
 add-if2 : tie.Need-add-if2 Inv-loop μ-loop
 add-if2 c = search needs
@@ -96,19 +114,11 @@ same-length-4 c = search needs
 
 returns-2 : tie.Need-returns-2 Inv-loop μ-loop
 returns-2 c =
-    let l = c .before .before .before .before .before .before .before .before .before .loop in
-    let a = c .before .before .before .before .before .before .before .before .before .before .before .before .before .before .args in
-    let p = c .before .before .before .before .before .before .before .before .before .before .before .before .before .before .pre in
-    let bytes = a .bytes .now in
-    let ends = a .ends .now in
-    let end = c .before .before .before .before .before .before .wide .ensures in
-    let n = c .before .before .before .before .normal-form in
-    let here : l .i < length ends = omega arith in
-    let next = generators-next bytes ends (l .from) (l .i) here end in
+    let formed = c .before .before .before .before in
+    let l = turn formed .loop in
     let f = l .inv .6 in
-    let room : l .sum ≤ length (l .out) = omega (arith, p .1 .0, l .inv .2, l .inv .4) in
-    let letters = letters-kept (l .out) (bytesOf (nf (word (slice (l .from) (c .before .before .before .before .before .before .wide .result) bytes)))) (l .sum) (n .result) (n .ensures .1) room ∙ f .letters in
-    (omega (arith, l .inv .5, long-sum (l .sum) _ _ next (n .ensures .0) (c .before .if1 .left) (c .if2 .taken)), ((l .inv .4, f .sums), (letters, f .ends-is)))
+    let long = long-sum (l .sum) _ _ (next formed) (formed .normal-form .ensures .0) (c .before .if1 .left) (c .if2 .taken) in
+    (omega (arith, l .inv .5, long), ((l .inv .4, f .sums), (kept formed ∙ f .letters, f .ends-is)))
 
 add-sum : tie.Need-add-sum Inv-loop μ-loop
 add-sum c = search needs
@@ -130,26 +140,22 @@ loop-less c = search needs
 
 loop-again : tie.Need-loop-again Inv-loop μ-loop
 loop-again c =
-    let l = c .before .before .before .before .before .before .before .before .before .loop in
-    let a = c .before .before .before .before .before .before .before .before .before .before .before .before .before .before .args in
-    let p = c .before .before .before .before .before .before .before .before .before .before .before .before .before .before .pre in
+    let formed = c .before .before .before .before in
+    let l = turn formed .loop in
+    let a = start formed .args in
     let bytes = a .bytes .now in
     let ends = a .ends .now in
-    let end = c .before .before .before .before .before .before .wide .ensures in
-    let n = c .before .before .before .before .normal-form in
+    let n = formed .normal-form in
     let here : l .i < length ends = omega arith in
-    let next = generators-next bytes ends (l .from) (l .i) here end in
-    let f = l .inv .6 in
-    let room : l .sum ≤ length (l .out) = omega (arith, p .1 .0, l .inv .2, l .inv .4) in
-    let later = long-later (l .sum) _ _ next (n .ensures .0) (c .before .if1 .left) (c .if2 .left) in (
+    let later = long-later (l .sum) _ _ (next formed) (n .ensures .0) (c .before .if1 .left) (c .if2 .left) in (
       omega arith,
-      behind-next bytes ends (l .from) (l .i) here end (l .inv .1),
+      behind-next bytes ends (l .from) (l .i) here (formed .before .before .wide .ensures) (l .inv .1),
       n .kept .1 .1 .1 .0 ∙ l .inv .2,
       length-set (l .out-ends) (l .i) (l .sum + n .result) ∙ l .inv .3,
       c .if2 .left,
       omega (arith, l .inv .5, later),
-      forming-more (generators bytes ends) (a .out-ends .now) _ (l .sum) (l .i) (l .out) (l .out-ends) f _ _ next (omega (arith, generators-length bytes 0 ends))
-          (n .result) (n .ensures .0) (n .ensures .1) room (omega (arith, p .1 .1)),
+      forming-more (generators bytes ends) (a .out-ends .now) _ (l .sum) (l .i) (l .out) (l .out-ends) (l .inv .6) _ _ (next formed)
+          (omega (arith, generators-length bytes 0 ends)) (n .result) (n .ensures .0) (n .ensures .1) (room formed) (omega (arith, start formed .pre .1 .1)),
     )
 
 same-length-5 : tie.Need-same-length-5 Inv-loop μ-loop

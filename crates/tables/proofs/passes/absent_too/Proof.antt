@@ -1,5 +1,5 @@
 -- Where this entry is not k, the answer so far remains. Assumes nothing.
-use Rattle.tables.proofs.Telling.{tells-with}
+use Rattle.words.proofs.Telling.{tells-with}
 use borrow.Author.Needs.{needs}
 use Rattle.tables.proofs.passes.absent_too.Statement.{statement}
 use Rattle.tables.proofs.passes.absent_too.Tie as tie

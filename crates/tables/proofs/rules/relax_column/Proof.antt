@@ -1,5 +1,6 @@
--- After i turns the first i rows are relaxed. Assumes nothing.
-use Prim.Native.Nat.{_-_, _≤_}
+-- After some turns the first i rows are relaxed, and at most one is left. Assumes nothing.
+use mathlib.Core.Path.{_∙_}
+use Prim.Native.Nat.{_+_, _-_, _≤_}
 use Rattle.levels.specs.Levels.{Relaxed}
 use Rattle.levels.specs.Passes.{Upto}
 use Rattle.levels.proofs.Relaxing.{relaxed-begins, relaxed-turn, lowers-length}
@@ -19,11 +20,25 @@ abbrev μ-loop : tie.MeasureT-loop
 loop-holds : tie.Need-loop-holds Inv-loop μ-loop
 loop-holds c = (omega arith, relaxed-begins)
 
+add-loop : tie.Need-add-loop Inv-loop μ-loop
+add-loop c = omega (arith, c .before .before .pre .0 .few)
+
 relax-in-column-requires : tie.Need-relax-in-column-requires Inv-loop μ-loop
 relax-in-column-requires c κs =
     let at-loop = c .before .before in
     let start = at-loop .before .before in
-    let p = start .pre in (ready-relaxed (p .0) (at-loop .loop .inv .1), (p .1 .0, (p .1 .1, c .before .loop-test .taken)))
+    let p = start .pre in (ready-relaxed (p .0) (at-loop .loop .inv .1), (p .1 .0, (p .1 .1, omega arith)))
+
+add-relax-in-column : tie.Need-add-relax-in-column Inv-loop μ-loop
+add-relax-in-column c = search needs
+
+relax-in-column-requires-2 : tie.Need-relax-in-column-requires-2 Inv-loop μ-loop
+relax-in-column-requires-2 c κs =
+    let at-first = c .before .before .before in
+    let at-loop = at-first .before .before .before in
+    let start = at-loop .before .before in
+    let p = start .pre in
+    (ready-relaxed (ready-relaxed (p .0) (at-loop .loop .inv .1)) (at-first .relax-in-column .ensures), (p .1 .0, (p .1 .1, at-first .before .before .loop-test .taken)))
 
 add-i : tie.Need-add-i Inv-loop μ-loop
 add-i c = search needs
@@ -33,19 +48,45 @@ loop-less c = search needs
 
 loop-again : tie.Need-loop-again Inv-loop μ-loop
 loop-again c =
-    let at-relax-in-column = c .before .before in
-    let at-loop = at-relax-in-column .before .before .before in
+    let at-second = c .before .before in
+    let at-first = at-second .before .before .before .before in
+    let at-loop = at-first .before .before .before in
     let start = at-loop .before .before in
     let a = start .args in
-    (omega arith, relaxed-turn {Y = ColumnTurn (a .width) (a .x) (a .y)} (at-loop .loop .inv .1) (at-relax-in-column .relax-in-column .ensures))
+    let turn = ColumnTurn (a .width) (a .x) (a .y) in
+    let i = at-loop .loop .i in
+    let first = relaxed-turn {Y = turn} (at-loop .loop .inv .1) (at-first .relax-in-column .ensures) in
+    (omega arith, relaxed-all turn (i + 1 + 1) (i + 2) (omega arith) (relaxed-turn {Y = turn} first (at-second .relax-in-column2 .ensures)))
+
+relax-in-column-requires-3 : tie.Need-relax-in-column-requires-3 Inv-loop μ-loop
+relax-in-column-requires-3 c κs =
+    let at-loop = c .before .before .before in
+    let start = at-loop .before .before in
+    let p = start .pre in (ready-relaxed (p .0) (at-loop .loop .inv .1), (p .1 .0, (p .1 .1, omega arith)))
 
 same-length : tie.Need-same-length Inv-loop μ-loop
-same-length c = lowers-length (c .before .loop .inv .1 .lowers)
+same-length c =
+    let at-last = c .before .before in
+    let at-loop = at-last .before .before .before .before in
+    lowers-length (at-last .relax-in-column3 .ensures .lowers) ∙ lowers-length (at-loop .loop .inv .1 .lowers)
 
 returns : tie.Need-returns Inv-loop μ-loop
 returns c =
-    let a = c .before .before .before .args in
-    relaxed-all (ColumnTurn (a .width) (a .x) (a .y)) (c .before .loop .i) (a .width) (omega arith) (c .before .loop .inv .1)
+    let at-last = c .before .before in
+    let at-loop = at-last .before .before .before .before in
+    let a = at-loop .before .before .args in
+    let turn = ColumnTurn (a .width) (a .x) (a .y) in
+    let i = at-loop .loop .i in
+    relaxed-all turn (i + 1) (a .width) (omega arith) (relaxed-turn {Y = turn} (at-loop .loop .inv .1) (at-last .relax-in-column3 .ensures))
+
+same-length-2 : tie.Need-same-length-2 Inv-loop μ-loop
+same-length-2 c = lowers-length (c .before .before .loop .inv .1 .lowers)
+
+returns-2 : tie.Need-returns-2 Inv-loop μ-loop
+returns-2 c =
+    let at-loop = c .before .before in
+    let a = at-loop .before .before .args in
+    relaxed-all (ColumnTurn (a .width) (a .x) (a .y)) (at-loop .loop .i) (a .width) (omega arith) (at-loop .loop .inv .1)
 
 pub relax-column-spec : {M : Type 1} → statement M
 relax-column-spec =
@@ -54,9 +95,15 @@ relax-column-spec =
     Inv-loop
     μ-loop
     loop-holds
+    add-loop
     relax-in-column-requires
+    add-relax-in-column
+    relax-in-column-requires-2
     add-i
     loop-less
     loop-again
+    relax-in-column-requires-3
     same-length
-    returns)
+    returns
+    same-length-2
+    returns-2)

@@ -2,7 +2,7 @@
 use mathlib.Core.Path.{_∙_}
 use Rattle.levels.proofs.Relaxing.{relaxed-then, lowers-length}
 use Rattle.tables.specs.Relaxing.{TripleRow, TripleColumn}
-use Rattle.tables.proofs.Finding.{child-front, joined}
+use Rattle.tables.proofs.Finding.{not-found, none-joined, child-front, joined}
 use Rattle.tables.proofs.Steps.{ready-relaxed}
 use Rattle.tables.proofs.rules.relax_e.Statement.{statement}
 use Rattle.tables.proofs.rules.relax_e.Tie as tie
@@ -12,22 +12,30 @@ child-requires c κs =
     let start = c .before .before .before .before in
     start .pre .1 .followed .room-children
 
+returns : tie.Need-returns
+returns c =
+    let at-child = c .before in
+    let start = at-child .before .before .before .before .before in
+    let none = not-found (child-front (start .pre .1) (at-child .child .ensures)) (c .if1 .taken) in
+    relaxed-then (none-joined none) (none-joined none)
+
 tail-requires : tie.Need-tail-requires
 tail-requires c κs =
-    let start = c .before .before .before .before .before in
+    let start = c .before .before .before .before .before .before in
     let linked = start .pre .1 in (linked .followed .room-letters, linked .followed .room-rests)
 
 relax-triple-row-requires : tie.Need-relax-triple-row-requires
 relax-triple-row-requires c κs =
-    let start = c .before .before .before .before .before .before .before in
-    let p = start .pre in (p .0, (p .1 .followed .room-letters, p .1 .followed .room-rests))
+    let start = c .before .before .before .before .before .before .before .before in
+    let p = start .pre in let followed = p .1 .followed in (p .0, (followed .room-letters, (followed .room-rests, followed .rest-earlier)))
 
 relax-triple-column-requires : tie.Need-relax-triple-column-requires
 relax-triple-column-requires c κs =
     let at-relax-triple-row = c .before .before .before in
-    let start = at-relax-triple-row .before .before .before .before .before .before .before .before in
+    let start = at-relax-triple-row .before .before .before .before .before .before .before .before .before in
     let p = start .pre in
-    (ready-relaxed (p .0) (at-relax-triple-row .relax-triple-row .ensures), (p .1 .followed .room-letters, p .1 .followed .room-rests))
+    let followed = p .1 .followed in
+    (ready-relaxed (p .0) (at-relax-triple-row .relax-triple-row .ensures), (followed .room-letters, (followed .room-rests, followed .rest-earlier)))
 
 same-length : tie.Need-same-length
 same-length c =
@@ -35,12 +43,12 @@ same-length c =
     let at-relax-triple-row = at-relax-triple-column .before .before .before .before in
     lowers-length (at-relax-triple-column .relax-triple-column .ensures .lowers) ∙ lowers-length (at-relax-triple-row .relax-triple-row .ensures .lowers)
 
-returns : tie.Need-returns
-returns c =
+returns-2 : tie.Need-returns-2
+returns-2 c =
     let at-relax-triple-column = c .before .before in
     let at-relax-triple-row = at-relax-triple-column .before .before .before .before in
     let at-tail = at-relax-triple-row .before .before in
-    let at-child = at-tail .before in
+    let at-child = at-tail .before .before in
     let start = at-child .before .before .before .before .before in
     let a = start .args in
     let linked = start .pre .1 in
@@ -54,8 +62,9 @@ relax-e-spec =
     tie.close
     (tie.spec
     child-requires
+    returns
     tail-requires
     relax-triple-row-requires
     relax-triple-column-requires
     same-length
-    returns)
+    returns-2)

@@ -2,7 +2,7 @@
 use Rattle.levels.proofs.Relaxing.{relaxed-then, lowers-length}
 use mathlib.Core.Path.{_∙_}
 use Rattle.tables.specs.Relaxing.{One}
-use Rattle.tables.proofs.Finding.{child-front, joined}
+use Rattle.tables.proofs.Finding.{not-found, none-joined, child-front, joined}
 use Rattle.tables.proofs.Steps.{ready-relaxed}
 use Rattle.tables.proofs.rules.relax_r.Statement.{statement}
 use Rattle.tables.proofs.rules.relax_r.Tie as tie
@@ -12,25 +12,32 @@ child-requires c κs =
     let start = c .before .before .before .before in
     start .pre .1 .followed .room-children
 
+returns : tie.Need-returns
+returns c =
+    let at-child = c .before in
+    let start = at-child .before .before .before .before .before in
+    let none = not-found (child-front (start .pre .1) (at-child .child .ensures)) (c .if1 .taken) in
+    relaxed-then (none-joined none) (none-joined none)
+
 tail-requires : tie.Need-tail-requires
 tail-requires c κs =
-    let start = c .before .before .before .before .before .before in
+    let start = c .before .before .before .before .before .before .before in
     let linked = start .pre .1 in (linked .followed .room-letters, linked .followed .room-rests)
 
 relax-at-requires : tie.Need-relax-at-requires
 relax-at-requires c κs =
-    let start = c .before .before .before .before .before .before .before in
+    let start = c .before .before .before .before .before .before .before .before in
     start .pre .0
 
 child-requires-2 : tie.Need-child-requires-2
 child-requires-2 c κs =
-    let start = c .before .before .before .before .before .before .before .before .before .before .before in
+    let start = c .before .before .before .before .before .before .before .before .before .before .before .before in
     start .pre .1 .followed .room-children
 
 relax-at-requires-2 : tie.Need-relax-at-requires-2
 relax-at-requires-2 c κs =
     let at-relax-at = c .before .before .before .before in
-    let start = at-relax-at .before .before .before .before .before .before .before .before in
+    let start = at-relax-at .before .before .before .before .before .before .before .before .before in
     ready-relaxed (start .pre .0) (at-relax-at .relax-at .ensures)
 
 same-length : tie.Need-same-length
@@ -39,13 +46,13 @@ same-length c =
     let at-relax-at = at-relax-at2 .before .before .before .before .before in
     lowers-length (at-relax-at2 .relax-at2 .ensures .lowers) ∙ lowers-length (at-relax-at .relax-at .ensures .lowers)
 
-returns : tie.Need-returns
-returns c =
+returns-2 : tie.Need-returns-2
+returns-2 c =
     let at-relax-at2 = c .before .before in
     let at-child2 = at-relax-at2 .before in
     let at-relax-at = at-child2 .before .before .before .before in
     let at-tail = at-relax-at .before in
-    let at-child = at-tail .before .before in
+    let at-child = at-tail .before .before .before in
     let start = at-child .before .before .before .before .before in
     let w = start .args .width in
     let linked = start .pre .1 in
@@ -60,9 +67,10 @@ relax-r-spec =
     tie.close
     (tie.spec
     child-requires
+    returns
     tail-requires
     relax-at-requires
     child-requires-2
     relax-at-requires-2
     same-length
-    returns)
+    returns-2)

@@ -3,7 +3,7 @@ use mathlib.Core.Path.{_∙_}
 use Rattle.levels.proofs.Relaxing.{relaxed-then, lowers-length}
 use Rattle.tables.specs.Nodes.{Front}
 use Rattle.tables.specs.Relaxing.{One}
-use Rattle.tables.proofs.Finding.{child-front, front-node, finds-through, joined}
+use Rattle.tables.proofs.Finding.{not-found, none-joined, child-front, front-node, finds-through, joined}
 use Rattle.tables.proofs.Steps.{ready-relaxed}
 use Rattle.tables.proofs.rules.relax_s.Statement.{statement}
 use Rattle.tables.proofs.rules.relax_s.Tie as tie
@@ -13,42 +13,49 @@ child-requires c κs =
     let start = c .before .before .before .before in
     start .pre .1 .followed .room-children
 
+returns : tie.Need-returns
+returns c =
+    let at-child = c .before in
+    let start = at-child .before .before .before .before .before in
+    let none = not-found (child-front (start .pre .1) (at-child .child .ensures)) (c .if1 .taken) in
+    relaxed-then (relaxed-then (none-joined (λ p inside through. none (through .0) (through .1) (through .2))) (none-joined none)) (none-joined none)
+
 tail-requires : tie.Need-tail-requires
 tail-requires c κs =
-    let start = c .before .before .before .before .before in
+    let start = c .before .before .before .before .before .before in
     let linked = start .pre .1 in (linked .followed .room-letters, linked .followed .room-rests)
 
 child-requires-2 : tie.Need-child-requires-2
 child-requires-2 c κs =
-    let start = c .before .before .before .before .before .before .before in
+    let start = c .before .before .before .before .before .before .before .before in
     start .pre .1 .followed .room-children
 
 relax-at-requires : tie.Need-relax-at-requires
 relax-at-requires c κs =
-    let start = c .before .before .before .before .before .before .before .before in
+    let start = c .before .before .before .before .before .before .before .before .before in
     start .pre .0
 
 tail-requires-2 : tie.Need-tail-requires-2
 tail-requires-2 c κs =
-    let start = c .before .before .before .before .before .before .before .before .before .before .before .before in
+    let start = c .before .before .before .before .before .before .before .before .before .before .before .before .before in
     let linked = start .pre .1 in (linked .followed .room-letters, linked .followed .room-rests)
 
 relax-at-requires-2 : tie.Need-relax-at-requires-2
 relax-at-requires-2 c κs =
     let at-relax-at = c .before .before .before .before in
-    let start = at-relax-at .before .before .before .before .before .before .before .before .before in
+    let start = at-relax-at .before .before .before .before .before .before .before .before .before .before in
     ready-relaxed (start .pre .0) (at-relax-at .relax-at .ensures)
 
 child-requires-3 : tie.Need-child-requires-3
 child-requires-3 c κs =
-    let start = c .before .before .before .before .before .before .before .before .before .before .before .before .before .before .before .before .before in
+    let start = c .before .before .before .before .before .before .before .before .before .before .before .before .before .before .before .before .before .before in
     start .pre .1 .followed .room-children
 
 relax-at-requires-3 : tie.Need-relax-at-requires-3
 relax-at-requires-3 c κs =
     let at-relax-at2 = c .before .before .before .before in
     let at-relax-at = at-relax-at2 .before .before .before .before .before in
-    let start = at-relax-at .before .before .before .before .before .before .before .before .before in
+    let start = at-relax-at .before .before .before .before .before .before .before .before .before .before in
     ready-relaxed (ready-relaxed (start .pre .0) (at-relax-at .relax-at .ensures)) (at-relax-at2 .relax-at2 .ensures)
 
 same-length : tie.Need-same-length
@@ -59,8 +66,8 @@ same-length c =
     lowers-length (at-relax-at3 .relax-at3 .ensures .lowers) ∙ lowers-length (at-relax-at2 .relax-at2 .ensures .lowers)
     ∙ lowers-length (at-relax-at .relax-at .ensures .lowers)
 
-returns : tie.Need-returns
-returns c =
+returns-2 : tie.Need-returns-2
+returns-2 c =
     let at-relax-at3 = c .before .before in
     let at-child3 = at-relax-at3 .before in
     let at-relax-at2 = at-child3 .before .before .before .before in
@@ -68,7 +75,7 @@ returns c =
     let at-relax-at = at-tail2 .before .before .before .before in
     let at-child2 = at-relax-at .before in
     let at-tail = at-child2 .before .before in
-    let at-child = at-tail .before in
+    let at-child = at-tail .before .before in
     let start = at-child .before .before .before .before .before in
     let w = start .args .width in
     let letters = start .args .letters .now in
@@ -90,6 +97,7 @@ relax-s-spec =
     tie.close
     (tie.spec
     child-requires
+    returns
     tail-requires
     child-requires-2
     relax-at-requires
@@ -98,4 +106,4 @@ relax-s-spec =
     child-requires-3
     relax-at-requires-3
     same-length
-    returns)
+    returns-2)

@@ -36,7 +36,7 @@ relax-triple-in-column-requires c κs =
     let at-if1 = at-if2 .before in
     let start = at-if1 .before .before .before .before in
     let p = start .pre in
-    (ready-relaxed (p .0) (at-loop .loop .inv .1), (p .1 .0, (p .1 .1, (at-if1 .if1 .left, (at-if2 .if2 .left, c .before .loop-test .taken)))))
+    (ready-relaxed (p .0) (at-loop .loop .inv .1), (p .1 .0, (p .1 .1 .0, (p .1 .1 .1, (at-if1 .if1 .left, (at-if2 .if2 .left, c .before .loop-test .taken))))))
 
 add-a : tie.Need-add-a Inv-loop μ-loop
 add-a c = search needs

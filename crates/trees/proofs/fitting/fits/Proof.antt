@@ -1,6 +1,7 @@
 -- Each answer is by the tests on the way. Assumes nothing.
 use lib.ListN.{length}
-use Rattle.trees.proofs.Ends.{tells-as, ends-rise, fits-ends}
+use Rattle.words.proofs.Telling.{tells-same}
+use Rattle.trees.proofs.Ends.{ends-rise, fits-ends}
 use borrow.Author.Needs.{needs}
 use Rattle.trees.proofs.fitting.fits.Statement.{statement}
 use Rattle.trees.proofs.fitting.fits.Tie as tie
@@ -29,7 +30,7 @@ ends-fit-requires c κs = search needs
 returns-7 : tie.Need-returns-7
 returns-7 c =
     let a = c .before .before .before .before .before .before .before .before .before .before .before .before .before .before .args in
-    tells-as
+    tells-same
     (c .ends-fit .result)
     (λ fit.
     record {

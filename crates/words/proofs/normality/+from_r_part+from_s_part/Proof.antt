@@ -4,7 +4,8 @@ use mathlib.Core.List.{_∷_}
 use lib.ListN.{length, drop}
 use Rattle.words.specs.Word.{S, Word}
 use Rattle.words.specs.Bytes.{word as wordOf}
-use Rattle.words.specs.Parts.{Decides, FromRPart}
+use Rattle.words.specs.Telling.{Tells}
+use Rattle.words.specs.Parts.{FromRPart}
 use Rattle.words.proofs.Parts.{rest-r, rest-s, rest-none, nothing-from-r, nothing-from-s, s-alone, not-from-r, not-from-s, r-then, s-then-r, ss-then}
 use borrow.Author.Needs.{needs}
 use native.Mathlib.Omega.{arith}
@@ -152,7 +153,7 @@ from-s-part-returns-4 t c =
     let w = c .before .before .before .before .before .before .before .before .args .word .now in
     let at = c .before .before .before .before .before .before .before .before .args .at in
     let next = rest-r w (at + 1) (omega arith) (c .before .if4 .taken) in
-    s-then-r (c .from-r-part .result) (wordOf (drop (at + 1 + 1) w)) (rest-s w at (omega arith) (c .before .before .before .before .if2 .left) ∙ ap (λ (l : Word). S ∷ l) next) (subst (λ (l : Word). Decides (c .from-r-part .result) (FromRPart l)) next (c .from-r-part .ensures))
+    s-then-r (c .from-r-part .result) (wordOf (drop (at + 1 + 1) w)) (rest-s w at (omega arith) (c .before .before .before .before .if2 .left) ∙ ap (λ (l : Word). S ∷ l) next) (subst (λ (l : Word). Tells (c .from-r-part .result) (FromRPart l)) next (c .from-r-part .ensures))
 
 from-s-part-add-from-r-part-2 : (t : ℕ) → from-s-part-lts.Need-add-from-r-part-2 (
   from-r-part-below t,

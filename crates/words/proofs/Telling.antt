@@ -4,7 +4,7 @@ use mathlib.Core.Path.{_≡_, refl, subst}
 use Prim.Native.Nat.{ℕ}
 use lib.Dec.{eqb}
 use borrow.Author.Tests.{eq-eqb, eqb-true}
-use Rattle.tables.specs.Nodes.{Tells}
+use Rattle.words.specs.Telling.{Tells}
 
 pub told : {P : Type 0} (r : Bool) → r ≡ true → Tells r P → P
 told {P} r is-true tells = subst (λ (b : Bool). Tells b P) is-true tells
