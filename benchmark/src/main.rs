@@ -123,13 +123,16 @@ fn call_of(generators: &[Vec<u8>], target: Vec<u8>, n: u16) -> Call {
     }
 }
 
-/// A list of so many generators of so many letters, and a target of 80.
-fn large_call(seed: u64, generators: usize, letters: usize, n: u16) -> Call {
-    let mut random = Random(seed);
-    let list: Vec<_> = (0..generators)
-        .map(|_| random.normal_word(letters))
-        .collect();
-    call_of(&list, random.normal_word(80), n)
+/// So many lists of so many generators of so many letters, each with a target of 80.
+fn large_calls(lists: usize, generators: usize, letters: usize, n: u16) -> Vec<Call> {
+    let mut random = Random(0x6b65726e656c);
+    let mut large_call = || {
+        let list: Vec<_> = (0..generators)
+            .map(|_| random.normal_word(letters))
+            .collect();
+        call_of(&list, random.normal_word(80), n)
+    };
+    (0..lists).map(|_| large_call()).collect()
 }
 
 /// Up to 4 generators of up to 7 letters, a target of up to 12, and n up to 9. One call in eight has an end, a letter, a witness or a table that
@@ -231,7 +234,7 @@ fn timed<T>(run: impl FnOnce() -> T) -> f64 {
     now() - start
 }
 
-/// Medians: of the milliseconds of both, and of the ratios of neighbouring calls, which a machine that is slow for a while leaves as they are.
+/// Medians over rounds: the milliseconds of a call of both, and the ratio of their sums, which a machine that is slow for a while leaves as it is.
 struct Measured {
     proved: f64,
     plain: f64,
@@ -244,43 +247,47 @@ fn median(numbers: impl Iterator<Item = f64>) -> f64 {
     numbers[numbers.len() / 2]
 }
 
-/// Both in turn, for two seconds, but at least 11 times and at most 2001.
-fn measure(call: &Call, lent: &mut Lent) -> Measured {
-    let mut times = Vec::new();
+/// The milliseconds of both on one call. The one that comes second finds the call in the cache.
+fn measure_call(call: &Call, lent: &mut Lent, proved_first: bool) -> (f64, f64) {
+    let call = std::hint::black_box(call);
+    if proved_first {
+        let ours = timed(|| proved(call, lent));
+        (ours, timed(|| plain(call, lent)))
+    } else {
+        let theirs = timed(|| plain(call, lent));
+        (timed(|| proved(call, lent)), theirs)
+    }
+}
+
+/// Rounds over all calls, each made once by both, for two seconds, but at least 5. One call made again and again would be measured with its branches
+/// learnt by heart.
+fn measure(calls: &[Call], lent: &mut Lent) -> Measured {
+    let mut sums = Vec::new();
     let start = now();
-    while times.len() < 11 || (now() - start < 2000.0 && times.len() < 2001) {
-        let ours = timed(|| proved(std::hint::black_box(call), lent));
-        let theirs = timed(|| plain(std::hint::black_box(call), lent));
-        times.push((ours, theirs));
+    while sums.len() < 5 || now() - start < 2000.0 {
+        let proved_first = sums.len() % 2 == 0;
+        let times = calls
+            .iter()
+            .map(|call| measure_call(call, lent, proved_first));
+        sums.push(times.fold((0.0, 0.0), |sum, time| (sum.0 + time.0, sum.1 + time.1)));
     }
     Measured {
-        proved: median(times.iter().map(|&(ours, _)| ours)),
-        plain: median(times.iter().map(|&(_, theirs)| theirs)),
-        ratio: median(times.iter().map(|&(ours, theirs)| ours / theirs)),
+        proved: median(sums.iter().map(|&(ours, _)| ours)) / calls.len() as f64,
+        plain: median(sums.iter().map(|&(_, theirs)| theirs)) / calls.len() as f64,
+        ratio: median(sums.iter().map(|&(ours, theirs)| ours / theirs)),
     }
 }
 
 /// How many generators of how many letters have 320 together.
 const SHAPES: [(usize, usize); 4] = [(64, 5), (32, 10), (16, 20), (4, 80)];
 
-const SEEDS: [u64; 3] = [1001, 2002, 3003];
-
-/// The largest calls, with their names in a table.
-fn largest_calls() -> Vec<(String, Call)> {
-    SHAPES
-        .into_iter()
-        .flat_map(|(generators, letters)| {
-            SEEDS.map(|seed| {
-                let name = format!("{generators} of {letters} | {seed}");
-                (name, large_call(seed, generators, letters, 1000))
-            })
-        })
-        .collect()
-}
+/// How many lists of a shape are measured.
+const LISTS: usize = 60;
 
 fn print_ratios(lent: &mut Lent) {
-    for (_, call) in largest_calls() {
-        println!("{:.4}", measure(&call, lent).ratio);
+    for (generators, letters) in SHAPES {
+        let calls = large_calls(LISTS, generators, letters, 1000);
+        println!("{:.4}", measure(&calls, lent).ratio);
     }
 }
 
@@ -292,38 +299,44 @@ fn read_ratios(file: &str) -> Vec<f64> {
         .collect()
 }
 
+/// Both on each of the calls. How many have a member.
+fn compare_all(calls: &[Call], lent: &Lent) -> usize {
+    let member = |call: &&Call| matches!(compare(call, lent), Verdict::Member(_));
+    calls.iter().filter(member).count()
+}
+
 /// `moved` are the ratios where the functions are moved, of each program in turn.
 fn against_plain_rust(lent: &mut Lent, moved: &[Vec<f64>]) {
-    println!("| generators | list | verdict | proved, ms | plain Rust, ms | ratios | mean |");
+    println!("| generators | lists | members | proved, ms | plain Rust, ms | ratios | mean |");
     println!("|---|---|---|---|---|---|---|");
-    for (i, (name, call)) in largest_calls().iter().enumerate() {
-        let verdict = match compare(call, lent) {
-            Verdict::Member(count) => format!("member {count}"),
-            Verdict::None => "none".to_string(),
-            refused => panic!("{refused:?}"),
-        };
+    for (i, (generators, letters)) in SHAPES.into_iter().enumerate() {
+        let calls = large_calls(LISTS, generators, letters, 1000);
+        let members = compare_all(&calls, lent);
         let Measured {
             proved,
             plain,
             ratio,
-        } = measure(call, lent);
+        } = measure(&calls, lent);
         let ratios: Vec<f64> = std::iter::once(ratio)
             .chain(moved.iter().map(|ratios| ratios[i]))
             .collect();
         let mean = ratios.iter().sum::<f64>() / ratios.len() as f64;
         let ratios: Vec<_> = ratios.iter().map(|ratio| format!("{ratio:.2}")).collect();
         println!(
-            "| {name} | {verdict} | {proved:.3} | {plain:.3} | {} | {mean:.2} |",
+            "| {generators} of {letters} | {LISTS} | {members} | {proved:.3} | {plain:.3} | {} | {mean:.2} |",
             ratios.join(" ")
         );
     }
     println!();
 }
 
+/// How many lists of a shape are measured where only the growth matters.
+const FEW: usize = 8;
+
 fn growth(
     heading: &str,
     values: [usize; 3],
-    call: fn(usize, usize, usize) -> Call,
+    calls: fn(usize, usize, usize) -> Vec<Call>,
     lent: &mut Lent,
 ) {
     println!(
@@ -333,9 +346,9 @@ fn growth(
     println!("|---|---|---|---|");
     for (generators, letters) in SHAPES {
         let times = values.map(|value| {
-            let call = call(generators, letters, value);
-            compare(&call, lent);
-            measure(&call, lent).proved
+            let calls = calls(generators, letters, value);
+            compare_all(&calls, lent);
+            measure(&calls, lent).proved
         });
         println!(
             "| {generators} of {letters} | {:.3} | {:.3} | {:.3} |",
@@ -383,14 +396,14 @@ fn over_m(lent: &mut Lent) -> Vec<plot::Line> {
         points: Vec::new(),
     });
     for generators in (4..=32).step_by(4) {
-        let call = large_call(SEEDS[0], generators, 10, WALK);
-        let Measured { proved, plain, .. } = measure(&call, lent);
-        let walk = median((0..3).map(|_| timed(|| walk_finds(&call))));
-        for (line, time) in lines.iter_mut().zip([proved, plain, walk]) {
+        let calls = large_calls(FEW, generators, 10, WALK);
+        let Measured { proved, plain, .. } = measure(&calls, lent);
+        let mut found = 0;
+        let walk = timed(|| found = calls.iter().filter(|call| walk_finds(call)).count());
+        assert_eq!(found, compare_all(&calls, lent));
+        for (line, time) in lines.iter_mut().zip([proved, plain, walk / FEW as f64]) {
             line.points.push((10.0 * generators as f64, time));
         }
-        let member = matches!(compare(&call, lent), Verdict::Member(_));
-        assert_eq!(walk_finds(&call), member);
     }
     lines.into()
 }
@@ -415,14 +428,14 @@ fn main() {
     growth(
         "m",
         [80, 160, 320],
-        |generators, letters, m| large_call(SEEDS[0], generators * m / 320, letters, 1000),
+        |generators, letters, m| large_calls(FEW, generators * m / 320, letters, 1000),
         &mut lent,
     );
     println!("## Milliseconds of the proved verdict as n grows: m 320, t 80\n");
     growth(
         "n",
         [10, 100, 1000],
-        |generators, letters, n| large_call(SEEDS[0], generators, letters, n as u16),
+        |generators, letters, n| large_calls(FEW, generators, letters, n as u16),
         &mut lent,
     );
     println!("## Beside a walk of the group: generators of 10 letters, t 80, n {WALK}\n");

@@ -1,6 +1,7 @@
 //! The bounded verdict in plain Rust, by the same method as the proved one: the questions, the reduced list, the tree of suffixes, the table of
-//! pairs filled by levels, the target's rows, the witness walked along tight rules, and the zeroing. It proves nothing; it is what the
-//! benchmark measures against.
+//! pairs filled by levels, the target's rows, the witness walked along tight rules, and the zeroing. What the proved one passes over is passed over
+//! here too: rows without an entry of the level, a level that no entry lies above, rules that cannot lower anything. It proves nothing; it is what
+//! the benchmark measures against.
 
 // Where a loop stands in the lines of the processor's cache moves its time by some percent. So the program is linked four times, with all functions from here on, the
 // proved ones too, moved by so many bytes.
@@ -241,11 +242,7 @@ fn relax_pair(tree: &Tree, table: &mut [u16], x: usize, y: usize, k: u16) {
                 if let Some(t) = tree.rest(S, v) {
                     let sum = k + table[b * width + v];
                     lower(&mut table[a * width + t], sum);
-                }
-            }
-            for v in 0..width {
-                if let Some(u) = tree.rest(S, v) {
-                    let sum = k + table[u * width + a];
+                    let sum = k + table[t * width + a];
                     lower(&mut table[v * width + b], sum);
                 }
             }
@@ -261,8 +258,13 @@ fn fill(tree: &Tree, n: u16, table: &mut [u16]) {
         lower(&mut table[whole as usize], 1);
     }
     let mut k = 1;
-    while k <= n {
+    while k <= n && table.iter().any(|&entry| entry > k) {
         for x in 0..width {
+            let row = &table[x * width..(x + 1) * width];
+            // No early end, so that the loop runs on many entries at once.
+            if !row.iter().fold(false, |found, &entry| found | (entry == k)) {
+                continue;
+            }
             for y in 0..width {
                 if table[x * width + y] == k {
                     relax_pair(tree, table, x, y, k);

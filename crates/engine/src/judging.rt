@@ -56,7 +56,7 @@ fn answer(
         (now (target .entry)) (now (table .entry)) (now (rows .entry))
         → VerdictRight gens (word (now (target .entry))) (n .0) r (now (witness .entry)) (now (witness .exit))) ⌝ }
 {
-    if (n.0 as usize) < cell(rows, count, target.len(), 0) {
+    if n.0 as usize + 1 <= cell(rows, count, target.len(), 0) {
         return Verdict::None;
     }
     Verdict::Member(write_witness(

@@ -42,10 +42,10 @@ module _ (w : ℕ) (letters rests : List ℕ) (earlier : RestsEarlier rests w) w
         rw (same, same′, ← ra, ← sb) (first (GS a b (r0, r1, r2) (s0, s1, s2)))
 
     code-e : (q c : ℕ) → UsesE w letters rests x y q c → Using Rules (place w x y) q c
-    code-e q c (inl (a, v, _, _, (r0, r1, r2, ra), (m0, m1, m2, mv), (b, _, (t, _, (s0, s1, s2, st), (same, same′))))) =
+    code-e q c (a, v, _, _, (r0, r1, r2, ra), (m0, m1, m2, mv), (b, _, (t, _, (s0, s1, s2, st), inl (same, same′)))) =
         rw (same, same′, ← ra, ← mv, ← st) (first (E a y b (r0, r1, r2) (m0, m1, m2) (s0, s1, s2)))
-    code-e q c (inr (v, t, _, _, (m0, m1, m2, mx), (s0, s1, s2, st), (a, _, (u, _, (r0, r1, r2, ru), (same, same′))))) =
-        rw (same, same′, ← mx, ← st, ← ru) (second (E a v y (r0, r1, r2) (m0, m1, m2) (s0, s1, s2)))
+    code-e q c (a, v, _, _, (r0, r1, r2, ra), (m0, m1, m2, mv), (b, _, (t, _, (s0, s1, s2, st), inr (same, same′)))) =
+        rw (same, same′, ← ra, ← mv, ← st) (second (E b a y (s0, s1, s2) (r0, r1, r2) (m0, m1, m2)))
 
     code-uses : (q c : ℕ) → UsesAll q c → Using Rules (place w x y) q c
     code-uses q c (inl (inl (inl f))) = code-f q c f
@@ -100,15 +100,15 @@ module _ (w : ℕ) (letters rests : List ℕ) (earlier : RestsEarlier rests w) w
     rule-first (E a v b r m s) at-z =
         let m-rest = rest-inside w letters rests earlier v (m .0) (m .1) in
         let s-rest = rest-inside w letters rests earlier b (s .0) (s .1) in
-        inr (inl (
+        inr (
           a,
           at rests v,
           r .1,
           m-rest,
           front a x r (same-row (at rests a) x (m .1) column at-z),
           renamed v y (same-column (at rests a) x (m .1) column at-z) m,
-          (b, s .1, (at rests b, s-rest, front b (at rests b) s refl, (refl, refl))),
-        ))
+          (b, s .1, (at rests b, s-rest, front b (at rests b) s refl, inl (refl, refl))),
+        )
     rule-first (F u v j r m s) at-z =
         let row-same = same-row u x m column at-z in
         let column-same = same-column u x m column at-z in
@@ -147,15 +147,15 @@ module _ (w : ℕ) (letters rests : List ℕ) (earlier : RestsEarlier rests w) w
     rule-second (E a v b r m s) at-z =
         let r-rest = rest-inside w letters rests earlier a (r .0) (r .1) in
         let s-rest = rest-inside w letters rests earlier b (s .0) (s .1) in
-        inr (inr (
+        inr (
           v,
           at rests b,
           m .1,
           s-rest,
           front v x m (same-row (at rests v) x (s .1) column at-z),
           renamed b y (same-column (at rests v) x (s .1) column at-z) s,
-          (a, r .1, (at rests a, r-rest, front a (at rests a) r refl, (refl, refl))),
-        ))
+          (a, r .1, (at rests a, r-rest, front a (at rests a) r refl, inr (refl, refl))),
+        )
     rule-second (F u v j r m s) at-z =
         let row-same = same-row v x s column at-z in
         let column-same = same-column v x s column at-z in

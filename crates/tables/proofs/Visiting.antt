@@ -3,13 +3,13 @@ use mathlib.Core.Path.{_≡_, refl, ap, subst, _∙_}
 use mathlib.Core.List.{List}
 use Prim.Native.Nat.{ℕ, _+_, _≤_, _<_}
 use native.Mathlib.Nat.{le-refl}
-use native.Mathlib.Decide.{le-ind}
+use native.Mathlib.Decide.{ℕ-discrete, le-ind}
 use native.Mathlib.Numerals.{add-one}
 use native.Mathlib.Omega.{arith}
 use lib.ListN.{length}
 use Rattle.levels.specs.Levels.{entry, Rules}
 use Rattle.levels.specs.Passes.{Counts, Sound, Premise, Forward, Passed}
-use Rattle.levels.proofs.Relaxing.{lowers-falls, lowers-length}
+use Rattle.levels.proofs.Relaxing.{lowers-falls, lowers-length, relaxed-already}
 use Rattle.levels.proofs.Passing.{counts-relaxed, pass-skips, pass-relaxes, pass-sound}
 use Rattle.tables.specs.Relaxing.{Ready}
 use Rattle.tables.specs.Levelling.{Visited, relaxed, skipped, Passes, begin, visit, Without}
@@ -41,17 +41,34 @@ module _ {Rule : Rules} {k : ℕ} where
       record { few = ready .few; positive = ready .positive; small = ready .small; counts = passes-counts (ready .counts) (ready .positive) run }
 
   -- places without the level are passed over: to visit them changes nothing
-  pub passes-over : {z z′ : ℕ} {t t′ : List ℕ} → z ≤ z′ → Without k t′ z z′ → Passes Rule k z t t′ → Passes Rule k z′ t t′
+  pub passes-over : {z z′ : ℕ} {t t′ : List ℕ} → z ≤ z′ → Without k k t′ z z′ → Passes Rule k z t t′ → Passes Rule k z′ t t′
   passes-over {z} {z′} {t} {t′} later without run =
       le-ind
-      (λ (m : ℕ). Without k t′ z m → Passes Rule k m t t′)
+      (λ (m : ℕ). Without k k t′ z m → Passes Rule k m t t′)
       (λ none. run)
       (λ m behind so-far none.
       subst (λ (end : ℕ). Passes Rule k end t t′) (add-one m)
-      (visit (so-far (λ p inside. none p (omega arith))) (skipped (none m (omega arith) behind) refl)))
+      (visit (so-far (λ p inside. none p (omega arith))) (skipped (λ level. none m (omega arith) behind (omega arith) (omega arith)) refl)))
       z′
       later
       without
+
+  -- where no entry lies above the level, no place's visit changes anything
+  pub passes-low : {t : List ℕ} → ((p : ℕ) → p < length t → entry t p ≤ k) → (z : ℕ) → Passes Rule k z t t
+  passes-low {t} low z =
+      le-ind
+      (λ (m : ℕ). Passes Rule k m t t)
+      begin
+      (λ m behind so-far. subst (λ (end : ℕ). Passes Rule k end t t) (add-one m) (visit so-far (visited-low m)))
+      z
+      (omega arith)
+    where
+      visited-low : (m : ℕ) → Visited Rule k m t t
+      visited-low m =
+          elim (ℕ-discrete (entry t m) k) [
+            | yes level ↦ relaxed level (relaxed-already (λ q c uses within. omega (arith, low c within)))
+            | no other ↦ skipped other refl
+          ]
 
   module _ {n N : ℕ} (rules : Forward Rule N) (positive : 1 ≤ k) where
     visited-passed : {z : ℕ} {t t′ : List ℕ} → Counts n N t → Visited Rule k z t t′ → Passed Rule t k z → Passed Rule t′ k (z + 1)

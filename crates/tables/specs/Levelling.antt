@@ -19,15 +19,15 @@ pub data Passes (Rule : Rules) (k : ℕ) : ℕ → List ℕ → List ℕ → Typ
   begin : {t : List ℕ} → Passes Rule k 0 t t
   visit : {z : ℕ} {t t′ t″ : List ℕ} → Passes Rule k z t t′ → Visited Rule k z t′ t″ → Passes Rule k (z + 1) t t″
 
--- no place from `from` up to `end` has the entry k
-abbrev pub Without : ℕ → List ℕ → ℕ → ℕ → Type 0
-Without k t from end = (p : ℕ) → p < end → from ≤ p → entry t p ≡ k → ⊥
+-- no place from `from` up to `end` has an entry from `low` to `high`
+abbrev pub Without : ℕ → ℕ → List ℕ → ℕ → ℕ → Type 0
+Without low high t from end = (p : ℕ) → p < end → from ≤ p → low ≤ entry t p → entry t p ≤ high → ⊥
 
 -- z is the first place from `from` on with the entry k, or `last` where none before it has that entry
 pub record Sought (k : ℕ) (t : List ℕ) (from last z : ℕ) : Type 0 where
   pub behind : from ≤ z
   pub inside : z ≤ last
-  pub without : Without k t from z
+  pub without : Without k k t from z
   pub stops : z < last → entry t z ≡ k
 
 -- the least entry above k, or n + 1

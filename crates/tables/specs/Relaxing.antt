@@ -55,21 +55,14 @@ module _ (w : ℕ) where
         ⊎ Joins (λ a. Front w letters rests 83 a x) (Through (λ m. Front w letters rests 83 y m) (λ m b. Front w letters rests 83 m b)) One q c)
         ⊎ Joins (λ a. Front w letters rests 83 a x) (λ b. Front w letters rests 83 b y) One q c
 
-    -- E with (x, y) first, where a is S in front of x and y is S in front of v: for each b that is S in front of some t, (a, t) from (v, b).
-    abbrev pub TripleRowTurn : ℕ → ℕ → ℕ → Uses
-    TripleRowTurn a v b q c = (t : ℕ) × (t < w) × Front w letters rests 83 b t × Only (place w v b) (place w a t) q c
+    -- E, where a is S in front of x and y is S in front of v. For each b that is S in front of some t: with (x, y) first, (a, t) from (v, b);
+    -- with (x, y) second, (b, v) from (t, a).
+    abbrev pub TripleTurn : ℕ → ℕ → ℕ → Uses
+    TripleTurn a v b q c =
+        (t : ℕ) × (t < w) × Front w letters rests 83 b t × (Only (place w v b) (place w a t) q c ⊎ Only (place w t a) (place w b v) q c)
 
-    -- E with (x, y) second, where v is S in front of x and y is S in front of t: for each a that is S in front of some u, (a, t) from (u, v).
-    abbrev pub TripleColumnTurn : ℕ → ℕ → ℕ → Uses
-    TripleColumnTurn v t a q c = (u : ℕ) × (u < w) × Front w letters rests 83 a u × Only (place w u v) (place w a t) q c
-
-    abbrev pub TripleRow : ℕ → ℕ → Uses
-    TripleRow a v = Upto (TripleRowTurn a v) w
-
-    abbrev pub TripleColumn : ℕ → ℕ → Uses
-    TripleColumn v t = Upto (TripleColumnTurn v t) w
+    abbrev pub Triples : ℕ → ℕ → Uses
+    Triples a v = Upto (TripleTurn a v) w
 
     abbrev pub UsesE : ℕ → ℕ → Uses
-    UsesE x y q c =
-        Joins (λ a. Front w letters rests 83 a x) (λ v. Front w letters rests 83 y v) TripleRow q c
-        ⊎ Joins (λ v. Front w letters rests 83 v x) (λ t. Front w letters rests 83 y t) TripleColumn q c
+    UsesE x y = Joins (λ a. Front w letters rests 83 a x) (λ v. Front w letters rests 83 y v) Triples

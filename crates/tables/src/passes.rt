@@ -53,26 +53,28 @@ fn visit(
     }
 }
 
-// Whether there was no entry k so far, and this one is not k either.
-fn absent_too(so_far: bool, entry: u16, k: u16) -> bool
-    ensures { λ r. ⌜ Tells r ((«so_far» ≡ true) × (entry ≡ k → ⊥)) ⌝ }
+// Whether there was no entry from `low` to `high` so far, and this is not one either.
+fn absent_too(so_far: bool, entry: u16, low: u16, high: u16) -> bool
+    ensures { λ r. ⌜ Tells r ((«so_far» ≡ true) × (low ≤ entry → entry ≤ high → ⊥)) ⌝ }
 {
-    if entry == k {
-        return false;
+    if low <= entry {
+        if entry <= high {
+            return false;
+        }
     }
     so_far
 }
 
-// Whether no place from `from` up to `end` has the entry k. No early end, so that the loop runs on many entries at once.
-fn absent(table: &[u16], from: usize, end: usize, k: u16) -> bool
+// Whether no place from `from` up to `end` has an entry from `low` to `high`. No early end, so that the loop runs on many entries at once.
+fn absent(table: &[u16], from: usize, end: usize, low: u16, high: u16) -> bool
     requires { ⌜ from ≤ end ⌝ }
     requires { ⌜ end ≤ length (now table) ⌝ }
-    ensures { λ r. ⌜ Tells r (Without k (now (table .entry)) from end) ⌝ }
+    ensures { λ r. ⌜ Tells r (Without low high (now (table .entry)) from end) ⌝ }
 {
     let mut none = true;
     let mut p = from;
     while p < end {
-        none = absent_too(none, table[p], k);
+        none = absent_too(none, table[p], low, high);
         p += 1;
     }
     none
@@ -103,14 +105,15 @@ fn seek(table: &[u16], width: usize, x: usize, y: usize, k: u16) -> usize
 {
     let row = cell(width, x, 0);
     if y == 0 {
-        if absent(table, row, row + width, k) {
+        if absent(table, row, row + width, k, k) {
             return width - 1;
         }
     }
     find(table, row + y, row + width - 1, k) - row
 }
 
-// One pass at the level k. Visits of the places that `seek` passes over would change nothing.
+// One pass at the level k. Where no entry lies above k it would lower none: so the last level costs nothing where each pair is led to. Visits of the
+// places that `seek` passes over would change nothing.
 fn pass(
     table: &mut [u16],
     width: usize,
@@ -125,6 +128,9 @@ fn pass(
     requires { ⌜ 1 ≤ width ⌝ }
     ensures { λ _. ⌜ Passes (Rule width (now (letters .entry)) (now (rests .entry))) k (width * width) (now (table .entry)) (now (table .exit)) ⌝ }
 {
+    if absent(table, 0, table.len(), k + 1, 65535) {
+        return;
+    }
     let mut pair = Pair { row: 0, column: 0 };
     while pair.row < width {
         let x = pair.row;

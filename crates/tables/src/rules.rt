@@ -22,10 +22,8 @@ ghost use Rattle.tables.specs.Relaxing.{
   UsesR,
   UsesS,
   UsesE,
-  TripleRow,
-  TripleRowTurn,
-  TripleColumn,
-  TripleColumnTurn,
+  TripleTurn,
+  Triples,
 };
 
 // F with the pair first: the row of x from the row of y.
@@ -135,7 +133,8 @@ fn relax_s(
     relax_at(table, width, a, child(children_s, width, y), k);
 }
 
-fn relax_triple_in_row(
+// E at a node b that begins with S, whose rest is t: with the pair first, (a, t) from (v, b); with the pair second, (b, v) from (t, a).
+fn relax_triple(
     table: &mut [u16],
     width: usize,
     letters: &[u8],
@@ -152,15 +151,18 @@ fn relax_triple_in_row(
     requires { ⌜ a < width ⌝ }
     requires { ⌜ v < width ⌝ }
     requires { ⌜ b < width ⌝ }
-    ensures { λ _. ⌜ Relaxed k (TripleRowTurn width (now (letters .entry)) (now (rests .entry)) a v b) (now (table .entry)) (now (table .exit)) ⌝ }
+    ensures { λ _. ⌜ Relaxed k (TripleTurn width (now (letters .entry)) (now (rests .entry)) a v b) (now (table .entry)) (now (table .exit)) ⌝ }
 {
     if begins(letters, 83, b) {
-        relax_from(table, cell(width, v, b), cell(width, a, node(rests, b)), k);
+        let t = node(rests, b);
+        relax_from(table, cell(width, v, b), cell(width, a, t), k);
+        relax_from(table, cell(width, t, a), cell(width, b, v), k);
     }
 }
 
-// E with the pair first: x with S in front is a, y without its S is v.
-fn relax_triple_row(
+// E for a pair of which the first with S in front is a, and the second without its S is v. One loop for both places of the pair in the rule:
+// they ask the same of each node.
+fn relax_triples(
     table: &mut [u16],
     width: usize,
     letters: &[u8],
@@ -173,7 +175,7 @@ fn relax_triple_row(
     requires { ⌜ width ≤ length (now letters) ⌝ }
     requires { ⌜ width ≤ length (now rests) ⌝ }
     requires { ⌜ RestsEarlier (now rests) width ⌝ }
-    ensures { λ _. ⌜ Relaxed k (Inside width a v (TripleRow width (now (letters .entry)) (now (rests .entry)))) (now (table .entry)) (now (table .exit)) ⌝ }
+    ensures { λ _. ⌜ Relaxed k (Inside width a v (Triples width (now (letters .entry)) (now (rests .entry)))) (now (table .entry)) (now (table .exit)) ⌝ }
 {
     if width <= a {
         return;
@@ -183,61 +185,8 @@ fn relax_triple_row(
     }
     let mut b = 0;
     while b < width {
-        relax_triple_in_row(table, width, letters, rests, a, v, b, k);
+        relax_triple(table, width, letters, rests, a, v, b, k);
         b += 1;
-    }
-}
-
-fn relax_triple_in_column(
-    table: &mut [u16],
-    width: usize,
-    letters: &[u8],
-    rests: &[u16],
-    v: usize,
-    t: usize,
-    a: usize,
-    k: u16,
-)
-    requires { ⌜ Ready width k (now table) ⌝ }
-    requires { ⌜ width ≤ length (now letters) ⌝ }
-    requires { ⌜ width ≤ length (now rests) ⌝ }
-    requires { ⌜ RestsEarlier (now rests) width ⌝ }
-    requires { ⌜ v < width ⌝ }
-    requires { ⌜ t < width ⌝ }
-    requires { ⌜ a < width ⌝ }
-    ensures { λ _. ⌜ Relaxed k (TripleColumnTurn width (now (letters .entry)) (now (rests .entry)) v t a) (now (table .entry)) (now (table .exit)) ⌝ }
-{
-    if begins(letters, 83, a) {
-        relax_from(table, cell(width, node(rests, a), v), cell(width, a, t), k);
-    }
-}
-
-// E with the pair second: x with S in front is v, y without its S is t.
-fn relax_triple_column(
-    table: &mut [u16],
-    width: usize,
-    letters: &[u8],
-    rests: &[u16],
-    v: usize,
-    t: usize,
-    k: u16,
-)
-    requires { ⌜ Ready width k (now table) ⌝ }
-    requires { ⌜ width ≤ length (now letters) ⌝ }
-    requires { ⌜ width ≤ length (now rests) ⌝ }
-    requires { ⌜ RestsEarlier (now rests) width ⌝ }
-    ensures { λ _. ⌜ Relaxed k (Inside width v t (TripleColumn width (now (letters .entry)) (now (rests .entry)))) (now (table .entry)) (now (table .exit)) ⌝ }
-{
-    if width <= v {
-        return;
-    }
-    if width <= t {
-        return;
-    }
-    let mut a = 0;
-    while a < width {
-        relax_triple_in_column(table, width, letters, rests, v, t, a, k);
-        a += 1;
     }
 }
 
@@ -260,9 +209,15 @@ fn relax_e(
     if width <= a {
         return;
     }
-    let b = tail(letters, rests, width, 83, y);
-    relax_triple_row(table, width, letters, rests, a, b, k);
-    relax_triple_column(table, width, letters, rests, a, b, k);
+    relax_triples(
+        table,
+        width,
+        letters,
+        rests,
+        a,
+        tail(letters, rests, width, 83, y),
+        k,
+    );
 }
 
 // All rules in which the pair is a premise.

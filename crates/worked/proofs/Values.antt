@@ -48,7 +48,7 @@ unfolding nf
 P7 = record { normal = nf-normal (S ∷ S ∷ R ∷ []); matrix = inr refl }
 
 -- a member with one factor more than a bound for which none is right has the least count
-least-above : (gens : List Word) (target : Word) (k : ℕ) (factors : List ℕ) → length factors ≡ suc k → NoneRight gens target k → (n : ℕ) (r : List ℕ) → Rival gens n r → Reaches gens r target → length factors ≤ length r
+pub least-above : (gens : List Word) (target : Word) (k : ℕ) (factors : List ℕ) → length factors ≡ suc k → NoneRight gens target k → (n : ℕ) (r : List ℕ) → Rival gens n r → Reaches gens r target → length factors ≤ length r
 least-above gens target k factors e nobody n r rival reaches =
     elim (decLe (length factors) (length r)) [
       | yes h ↦ h

@@ -50,7 +50,8 @@ planted c =
     let p = start c .pre in
     let k = length (start c .args .ends .now) in
     rw (take-at (b .last .1 .1 .1 .1 .1 .1 .0) (drop k (replicate {A = ℕ} 64 0)) k (b .kept .1 .1 .1 .1 .1 .1 .0 ∙ front (start c)))
-    (list-planted (p .0) (p .1 .0) (c .before .before .before .before .before .before .before .before .before .before .before .before .before .if1 .left) (asked (start c))
+    (list-planted (p .0) (p .1 .0)
+    (λ empty. omega (arith, c .before .before .before .before .before .before .before .before .before .before .before .before .before .if1 .left)) (asked (start c))
     (rw (c .count .given .1) at (b .ensures)))
 
 returns : tie.Need-returns

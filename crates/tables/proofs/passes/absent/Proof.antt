@@ -10,10 +10,10 @@ use Rattle.tables.proofs.passes.absent.Statement.{statement}
 use Rattle.tables.proofs.passes.absent.Tie as tie
 
 abbrev Inv-loop : tie.InvT-loop
-Inv-loop table from end k none₀ p₀ none p = (from ≤ p) × (p ≤ end) × Tells none (Without k table from p)
+Inv-loop table from end low high none₀ p₀ none p = (from ≤ p) × (p ≤ end) × Tells none (Without low high table from p)
 
 abbrev μ-loop : tie.MeasureT-loop
-μ-loop table from end k none₀ p₀ none p = end - p
+μ-loop table from end low high none₀ p₀ none p = end - p
 
 loop-holds : tie.Need-loop-holds Inv-loop μ-loop
 loop-holds c = (omega arith, omega arith, λ p inside behind. absurd (omega arith))

@@ -8,7 +8,7 @@ use Rattle.tables.proofs.passes.find.Statement.{statement}
 use Rattle.tables.proofs.passes.find.Tie as tie
 
 abbrev Inv-loop : tie.InvT-loop
-Inv-loop table from last k p₀ p = (from ≤ p) × (p ≤ last) × Without k table from p
+Inv-loop table from last k p₀ p = (from ≤ p) × (p ≤ last) × Without k k table from p
 
 abbrev μ-loop : tie.MeasureT-loop
 μ-loop table from last k p₀ p = last - p
@@ -36,7 +36,7 @@ loop-less c = search needs
 loop-again : tie.Need-loop-again Inv-loop μ-loop
 loop-again c =
     let l = c .before .before .before .loop in
-    (omega arith, omega arith, below-more _ _ (l .inv .2) (λ behind. c .if1 .left))
+    (omega arith, omega arith, below-more _ _ (l .inv .2) (λ behind low high. c .if1 .left (omega arith)))
 
 returns-2 : tie.Need-returns-2 Inv-loop μ-loop
 returns-2 c =

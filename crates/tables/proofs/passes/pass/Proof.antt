@@ -1,10 +1,14 @@
--- The pass has visited the places before the pair. Those that `seek` passes over are without the level. Assumes nothing.
+-- Where no entry lies above the level, a pass changes nothing. In the loop the places before the pair are visited. Those that `seek` passes over are without the level. Assumes nothing.
 use mathlib.Core.Path.{_≡_, sym, subst}
 use Prim.Native.Nat.{ℕ, _*_, _-_, _≤_, _<_}
 use Rattle.tables.specs.Rules.{place, Rule}
 use Rattle.tables.specs.Levelling.{Passes, begin, visit}
 use Rattle.tables.proofs.Places.{place-inside, place-past}
-use Rattle.tables.proofs.Visiting.{passes-ready, passes-length, passes-over}
+use Rattle.tables.proofs.Visiting.{passes-ready, passes-length, passes-over, passes-low}
+use Rattle.levels.specs.Levels.{entry}
+use Rattle.words.proofs.Telling.{told}
+use native.Mathlib.Decide.{decLt}
+use borrow.Author.Needs.{needs}
 use native.Mathlib.Omega.{arith}
 use Rattle.tables.proofs.passes.pass.Statement.{statement}
 use Rattle.tables.proofs.passes.pass.Tie as tie
@@ -17,9 +21,31 @@ Inv-loop table₀ width letters rests children-r children-s k pair₀ table pair
 abbrev μ-loop : tie.MeasureT-loop
 μ-loop table₀ width letters rests children-r children-s k pair₀ table pair = width * width - place width (pair .row) (pair .column)
 
+add-absent : tie.Need-add-absent Inv-loop μ-loop
+add-absent c = search needs
+
+absent-requires : tie.Need-absent-requires Inv-loop μ-loop
+absent-requires c κs = search needs
+
+same-length : tie.Need-same-length Inv-loop μ-loop
+same-length c = search needs
+
+returns : tie.Need-returns Inv-loop μ-loop
+returns c =
+    let start = c .before .before .before .before .before .before .before .before in
+    let a = start .args in
+    let counts = start .pre .0 .counts in
+    let none = told (c .before .absent .result) (c .if1 .taken) (c .before .absent .ensures) in
+    passes-low
+    (λ p inside. elim (decLt (a .k) (entry (a .table .now) p)) [
+      | yes above ↦ absurd (none p inside (omega arith) (omega arith) (omega (arith, counts .high p (omega (arith, counts .long)))))
+      | no low ↦ omega arith
+    ])
+    (a .width * a .width)
+
 loop-holds : tie.Need-loop-holds Inv-loop μ-loop
 loop-holds c =
-    let start = c .before .before .before .before .before in
+    let start = c .before .before .before .before .before .before .before .before in
     let a = start .args in
     let first : 0 ≡ place (a .width) 0 0 = omega arith in
     let rules = Rule (a .width) (a .letters .now) (a .rests .now) in
@@ -28,64 +54,64 @@ loop-holds c =
 seek-requires : tie.Need-seek-requires Inv-loop μ-loop
 seek-requires c κs =
     let at-loop = c .before .before .before in
-    let start = at-loop .before .before .before .before .before .before in
-    (passes-ready (start .pre .0) (at-loop .loop .inv .2), (c .before .if1 .taken, at-loop .loop .inv .0))
+    let start = at-loop .before .before .before .before .before .before .before .before .before in
+    (passes-ready (start .pre .0) (at-loop .loop .inv .2), (c .before .if2 .taken, at-loop .loop .inv .0))
 
 visit-requires : tie.Need-visit-requires Inv-loop μ-loop
 visit-requires c κs =
-    let at-if1 = c .before .before .before in
-    let at-loop = at-if1 .before .before in
-    let start = at-loop .before .before .before .before .before .before in
+    let at-if2 = c .before .before .before in
+    let at-loop = at-if2 .before .before in
+    let start = at-loop .before .before .before .before .before .before .before .before .before in
     let p = start .pre in
-    (passes-ready (p .0) (at-loop .loop .inv .2), (p .1 .0, (at-if1 .if1 .taken, omega (arith, c .before .seek .ensures .inside, p .1 .1))))
+    (passes-ready (p .0) (at-loop .loop .inv .2), (p .1 .0, (at-if2 .if2 .taken, omega (arith, c .before .seek .ensures .inside, p .1 .1))))
 
 next-pair-requires : tie.Need-next-pair-requires Inv-loop μ-loop
 next-pair-requires c κs =
     let at-seek = c .before .before .before .before in
-    let at-if1 = at-seek .before .before in
-    let start = at-if1 .before .before .before .before .before .before .before .before in
+    let at-if2 = at-seek .before .before in
+    let start = at-if2 .before .before .before .before .before .before .before .before .before .before .before in
     let p = start .pre in
-    (p .0 .few, (at-if1 .if1 .taken, omega (arith, at-seek .seek .ensures .inside, p .1 .1)))
+    (p .0 .few, (at-if2 .if2 .taken, omega (arith, at-seek .seek .ensures .inside, p .1 .1)))
 
 loop-less : tie.Need-loop-less Inv-loop μ-loop
 loop-less c =
     let at-seek = c .before .before .before .before .before in
-    let at-if1 = at-seek .before .before in
-    let at-loop = at-if1 .before .before in
-    let start = at-loop .before .before .before .before .before .before in
+    let at-if2 = at-seek .before .before in
+    let at-loop = at-if2 .before .before in
+    let start = at-loop .before .before .before .before .before .before .before .before .before in
     let w = start .args .width in
     let l = at-loop .loop in
-    let inside : place w (l .pair .row) (l .pair .column) < w * w = place-inside (at-if1 .if1 .taken) (l .inv .0) in
+    let inside : place w (l .pair .row) (l .pair .column) < w * w = place-inside (at-if2 .if2 .taken) (l .inv .0) in
     omega (arith, c .next-pair .ensures .0, at-seek .seek .ensures .behind)
 
 loop-again : tie.Need-loop-again Inv-loop μ-loop
 loop-again c =
     let at-visit = c .before .before .before in
     let at-seek = at-visit .before .before in
-    let at-if1 = at-seek .before .before in
-    let at-loop = at-if1 .before .before in
-    let start = at-loop .before .before .before .before .before .before in
+    let at-if2 = at-seek .before .before in
+    let at-loop = at-if2 .before .before in
+    let start = at-loop .before .before .before .before .before .before .before .before .before in
     let a = start .args in
     let l = at-loop .loop in
     let sought = at-seek .seek .ensures in
     let rules = Rule (a .width) (a .letters .now) (a .rests .now) in
-    let last : place (a .width) (l .pair .row) (a .width - 1) < a .width * a .width = place-inside (at-if1 .if1 .taken) (omega (arith, start .pre .1 .1)) in (
+    let last : place (a .width) (l .pair .row) (a .width - 1) < a .width * a .width = place-inside (at-if2 .if2 .taken) (omega (arith, start .pre .1 .1)) in (
       c .next-pair .ensures .1,
       omega (arith, c .next-pair .ensures .0, sought .inside),
       subst (λ (z : ℕ). Passes rules (a .k) z (a .table .now) (at-visit .visit .last .0)) (sym (c .next-pair .ensures .0))
           (visit (passes-over (sought .behind) (sought .without) (l .inv .2)) (at-visit .visit .ensures)),
     )
 
-same-length : tie.Need-same-length Inv-loop μ-loop
-same-length c = passes-length (c .before .before .loop .inv .2)
+same-length-2 : tie.Need-same-length-2 Inv-loop μ-loop
+same-length-2 c = passes-length (c .before .before .loop .inv .2)
 
-returns : tie.Need-returns Inv-loop μ-loop
-returns c =
+returns-2 : tie.Need-returns-2 Inv-loop μ-loop
+returns-2 c =
     let at-loop = c .before .before in
-    let start = at-loop .before .before .before .before .before .before in
+    let start = at-loop .before .before .before .before .before .before .before .before .before in
     let a = start .args in
     let l = at-loop .loop in
-    let past : a .width * a .width ≤ place (a .width) (l .pair .row) (l .pair .column) = place-past (l .pair .column) (c .if1 .left) in
+    let past : a .width * a .width ≤ place (a .width) (l .pair .row) (l .pair .column) = place-past (l .pair .column) (c .if2 .left) in
     let end : place (a .width) (l .pair .row) (l .pair .column) ≡ a .width * a .width = omega (arith, l .inv .1) in
     subst (λ (z : ℕ). Passes (Rule (a .width) (a .letters .now) (a .rests .now)) (a .k) z (a .table .now) (l .table)) end (l .inv .2)
 
@@ -95,11 +121,15 @@ pass-spec =
     (tie.spec
     Inv-loop
     μ-loop
+    add-absent
+    absent-requires
+    same-length
+    returns
     loop-holds
     seek-requires
     visit-requires
     next-pair-requires
     loop-less
     loop-again
-    same-length
-    returns)
+    same-length-2
+    returns-2)
