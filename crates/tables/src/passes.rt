@@ -53,7 +53,8 @@ fn visit(
     }
 }
 
-// Whether there was no entry from `low` to `high` so far, and this is not one either.
+// Whether there was no entry from `low` to `high` so far, and this is not one either. Where `low` is `high`, two tests one inside the other become one
+// comparison; with a return for each they did not.
 fn absent_too(so_far: bool, entry: u16, low: u16, high: u16) -> bool
     ensures { λ r. ⌜ Tells r ((«so_far» ≡ true) × (low ≤ entry → entry ≤ high → ⊥)) ⌝ }
 {
