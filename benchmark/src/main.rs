@@ -259,8 +259,8 @@ fn measure_call(call: &Call, lent: &mut Lent, proved_first: bool) -> (f64, f64) 
     }
 }
 
-/// Rounds over all calls, each made once by both, for two seconds, but at least 5. One call made again and again would be measured with its branches
-/// learnt by heart.
+/// Rounds over all calls, each made once by both, for two seconds, but at least 5. One call made again and again takes less time than a job sees, which
+/// asks about each list once.
 fn measure(calls: &[Call], lent: &mut Lent) -> Measured {
     let mut sums = Vec::new();
     let start = now();
