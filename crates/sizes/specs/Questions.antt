@@ -2,6 +2,7 @@
 use mathlib.Core.List.{[], _∷_}
 use Prim.Native.Nat.{ℕ, _+_, _*_}
 use lib.Dec.{leb}
+use Rattle.limits.specs.Limits.{mostFactors}
 use Rattle.words.specs.Questions.{asks, firstNo, question12, question14}
 use Rattle.words.specs.declared.Refusal.the-variants.{BoundTooLarge, TableTooShort}
 use Rattle.words.specs.declared.Asked.{Asked}
@@ -12,7 +13,7 @@ side m t = m + 2 * t + 1
 
 -- 13: "Is n at most 1,000?"
 abbrev pub question13 : ℕ → Asked
-question13 n = asks (leb n 1000) BoundTooLarge
+question13 n = asks (leb n mostFactors) BoundTooLarge
 
 -- 15: "Has each table at least q × q entries?"
 abbrev pub question15 : ℕ → ℕ → ℕ → Asked

@@ -24,10 +24,10 @@ pub fn of_sizes(
 ) -> Asked
     ensures { λ r. ⌜ r ≡ ofSizes (m .0) (t .0) (n .0) first second witness ⌝ }
 {
-    if 80 < t.0 {
+    if limits::FORM_LETTERS < t.0 {
         return Asked::Refused(Refusal::NormalFormTooLong);
     }
-    if 1000 < n.0 {
+    if limits::BOUND < n.0 {
         return Asked::Refused(Refusal::BoundTooLarge);
     }
     if witness < n.0 as usize {
