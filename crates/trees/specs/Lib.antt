@@ -3,3 +3,4 @@ pub mod Numbering
 pub mod Building
 pub mod Ends
 pub mod Growing
+pub mod Bounds

@@ -1,0 +1,87 @@
+-- After q turns the first q entries are lowered. Assumes nothing.
+use mathlib.Core.Path.{ap, _∙_}
+use Prim.Native.Nat.{ℕ, min, _+_, _-_, _≤_}
+use native.Mathlib.Nat.{le-refl}
+use lib.ListN.{length}
+use Rattle.trees.specs.Tree.{at}
+use Rattle.rows.specs.Rounds.{Rewritten}
+use Rattle.rows.proofs.Rewriting.{rewritten-to, rewritten-none, rewritten-more}
+use borrow.Author.Needs.{needs}
+use native.Mathlib.Omega.{arith}
+use Rattle.rows.proofs.filling.lower_row.Statement.{statement}
+use Rattle.rows.proofs.filling.lower_row.Tie as tie
+
+abbrev Inv-loop : tie.InvT-loop
+Inv-loop row₀ k from q₀ row q = (q ≤ length row₀) × Rewritten (λ p. min (at row₀ p) (k + at from p)) row₀ row q
+
+abbrev μ-loop : tie.MeasureT-loop
+μ-loop row₀ k from q₀ row q = length row₀ - q
+
+loop-holds : tie.Need-loop-holds Inv-loop μ-loop
+loop-holds c = (omega arith, rewritten-none)
+
+mul-least : tie.Need-mul-least Inv-loop μ-loop
+mul-least c = search needs
+
+slice-read-least : tie.Need-slice-read-least Inv-loop μ-loop
+slice-read-least c = search needs
+
+mul-least-2 : tie.Need-mul-least-2 Inv-loop μ-loop
+mul-least-2 c = search needs
+
+shared-slice-read-least : tie.Need-shared-slice-read-least Inv-loop μ-loop
+shared-slice-read-least c = search needs
+
+add-least : tie.Need-add-least Inv-loop μ-loop
+add-least c =
+    let q = c .before .before .before .loop .q in
+    omega (arith, c .before .before .before .before .before .before .pre .0, c .before .before .before .before .before .before .pre .1 .1 q (omega arith))
+
+least-requires : tie.Need-least-requires Inv-loop μ-loop
+least-requires c κs = search needs
+
+mul-row : tie.Need-mul-row Inv-loop μ-loop
+mul-row c = search needs
+
+slice-write-row : tie.Need-slice-write-row Inv-loop μ-loop
+slice-write-row c = search needs
+
+add-q : tie.Need-add-q Inv-loop μ-loop
+add-q c = search needs
+
+loop-less : tie.Need-loop-less Inv-loop μ-loop
+loop-less c = search needs
+
+loop-again : tie.Need-loop-again Inv-loop μ-loop
+loop-again c =
+    let l = c .before .before .before .before .loop in
+    let a = c .before .before .before .before .before .before .before .args in
+    let lowered = c .least .ensures ∙ ap (λ (x : ℕ). min x (a .k + at (a .from .now) (l .q))) (l .inv .1 .old (l .q) (le-refl (l .q))) in
+    (omega arith, rewritten-more (l .inv .1) (omega arith) lowered)
+
+same-length : tie.Need-same-length Inv-loop μ-loop
+same-length c = search needs
+
+returns : tie.Need-returns Inv-loop μ-loop
+returns c = rewritten-to (c .before .loop .inv .1) (omega (arith, c .before .loop .inv .1 .long))
+
+pub lower-row-spec : {M : Type 1} → statement M
+lower-row-spec =
+    tie.close
+    (tie.spec
+    Inv-loop
+    μ-loop
+    loop-holds
+    mul-least
+    slice-read-least
+    mul-least-2
+    shared-slice-read-least
+    add-least
+    least-requires
+    mul-row
+    slice-write-row
+    add-q
+    loop-less
+    loop-again
+    same-length
+    returns)
