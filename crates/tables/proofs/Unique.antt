@@ -10,7 +10,7 @@ use Rattle.levels.specs.Levels.{entry}
 use Rattle.tables.specs.Levelling.{Made, whole, one, two, Full}
 
 module _ {w : ℕ} {letters rests wholes : List ℕ} {n : ℕ} where
-  made-least : {t : List ℕ} {c v : ℕ} → Full w letters rests wholes n t → Made w letters rests wholes c v → v ≤ n → entry t c ≤ v
+  pub made-least : {t : List ℕ} {c v : ℕ} → Full w letters rests wholes n t → Made w letters rests wholes c v → v ≤ n → entry t c ≤ v
   made-least full (whole j inside) small = full .starts j inside
   made-least {t} full (one {p} {q} {c} rule past made) small =
       let none : entry t q ≡ 0 = List·getD-eq-default t 0 {n = q} (omega (arith, full .counts .long)) in

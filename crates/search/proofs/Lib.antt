@@ -1,0 +1,12 @@
+mod Answers
+mod Choosing
+mod Stacked
+mod Advancing
+mod Premises
+mod Stepping
+mod Walks
+mod Descending
+mod TightRules
+mod Spelled
+mod LastRow
+mod Tabulating

@@ -1,0 +1,102 @@
+-- One row back, by the letter that is read. Assumes nothing.
+use Rattle.search.proofs.Stacked.{length-stacked}
+use Rattle.search.proofs.Descending.{by-r, by-s, row-room, children-safe, some-back, back-room, descent-on}
+use borrow.Author.Needs.{needs}
+use native.Mathlib.Omega.{arith}
+use Rattle.search.proofs.descent.back.Statement.{statement}
+use Rattle.search.proofs.descent.back.Tie as tie
+
+shared-slice-read-if1 : tie.Need-shared-slice-read-if1
+shared-slice-read-if1 c = search needs
+
+back-by-requires : tie.Need-back-by-requires
+back-by-requires c κs =
+    let start = c .before .before .before .before .before .before .before .before .before .before .before in
+    let i = start .args .i in
+    let p = start .pre in
+    let d = p .0 in
+    let here = p .1 .0 in
+    let h = p .1 .1 .0 in
+    let e = by-r _ _ _ (c .before .before .if1 .taken) in
+    let room = back-room d i h e here in
+    let height = length-stacked (start .args .xs .now) (start .args .ys .now) (start .args .at .height) in
+    let some = some-back d i h e here in (
+      children-safe d i h e,
+      (
+        d .counts,
+        (
+          (here .node, row-room d i h e, d .few),
+          (
+            (p .1 .1 .1, p .1 .1 .2),
+            (some, λ q pushed b. omega (arith, room q pushed b, height)),
+          ),
+        ),
+      ),
+    )
+
+same-length : tie.Need-same-length
+same-length c = search needs
+
+same-length-2 : tie.Need-same-length-2
+same-length-2 c = search needs
+
+returns : tie.Need-returns
+returns c =
+    let start = c .before .before .before .before .before .before .before .before .before .before .before .before .before .before .before .before in
+    let p = start .pre in
+    let e = by-r _ _ _ (c .before .before .before .before .before .before .before .if1 .taken) in
+    let b = c .before .before .before .before .back-by .ensures in
+    rw (b .2) (descent-on (p .0) (start .args .i) (p .1 .1 .0) e (p .1 .0) _ (b .0) (b .1))
+
+back-by-requires-2 : tie.Need-back-by-requires-2
+back-by-requires-2 c κs =
+    let start = c .before .before .before .before .before .before .before .before .before .before .before in
+    let i = start .args .i in
+    let p = start .pre in
+    let d = p .0 in
+    let here = p .1 .0 in
+    let h = p .1 .1 .0 in
+    let e = by-s _ _ _ (c .before .before .if1 .left) in
+    let room = back-room d i h e here in
+    let height = length-stacked (start .args .xs .now) (start .args .ys .now) (start .args .at .height) in
+    let some = some-back d i h e here in (
+      children-safe d i h e,
+      (
+        d .counts,
+        (
+          (here .node, row-room d i h e, d .few),
+          (
+            (p .1 .1 .1, p .1 .1 .2),
+            (some, λ q pushed b. omega (arith, room q pushed b, height)),
+          ),
+        ),
+      ),
+    )
+
+same-length-3 : tie.Need-same-length-3
+same-length-3 c = search needs
+
+same-length-4 : tie.Need-same-length-4
+same-length-4 c = search needs
+
+returns-2 : tie.Need-returns-2
+returns-2 c =
+    let start = c .before .before .before .before .before .before .before .before .before .before .before .before .before .before .before .before in
+    let p = start .pre in
+    let e = by-s _ _ _ (c .before .before .before .before .before .before .before .if1 .left) in
+    let b = c .before .before .before .before .back-by2 .ensures in
+    rw (b .2) (descent-on (p .0) (start .args .i) (p .1 .1 .0) e (p .1 .0) _ (b .0) (b .1))
+
+pub back-spec : {M : Type 1} → statement M
+back-spec =
+    tie.close
+    (tie.spec
+    shared-slice-read-if1
+    back-by-requires
+    same-length
+    same-length-2
+    returns
+    back-by-requires-2
+    same-length-3
+    same-length-4
+    returns-2)

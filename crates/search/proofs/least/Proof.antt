@@ -1,0 +1,86 @@
+-- A table that was filled fits the rows, so both are filled, and the last row decides. Assumes nothing.
+use mathlib.Core.Path.{refl}
+use Rattle.words.proofs.Telling.{told, told-not}
+use Rattle.tables.specs.Filling.{Filled}
+use Rattle.search.specs.Search.{Fits}
+use Rattle.search.proofs.Tabulating.{tabulated, right, searches}
+use borrow.Author.Needs.{needs}
+use native.Mathlib.Omega.{arith}
+use Rattle.search.proofs.least.Statement.{statement}
+use Rattle.search.proofs.least.Tie as tie
+
+-- the state at entry, from where the rows were filled
+abbrev start : tie.After-fill2 → tie.Start
+start c = c .before .before .before .before .before .before .before .before .before .before .before .before .before .before .before .before .before .before .before
+
+-- the table was filled, so the inputs fit
+fits-at : (c : tie.After-fill2)
+    → let a = start c .args in
+    Fits (a .count) (a .letters .now) (a .rests .now) (a .children-r .now) (a .children-s .now) (a .wholes .now) (a .target .now) (a .n .0)
+    (record { first = a .first .now; second = a .second .now; witness = a .witness .now })
+fits-at c =
+    let room = c .before .before .before .before .before .before .before .before .before .has-room in
+    record { room = told (room .result) (c .before .before .before .before .before .before .before .before .if1 .taken) (room .ensures); table = (rw (c .before .before .before .if2 .taken) at (c .before .before .before .before .before .before .fill .ensures)) .0 }
+
+table-at : (c : tie.After-fill2)
+    → let a = start c .args in
+    Filled (a .count) (a .letters .now) (a .rests .now) (a .children-r .now) (a .children-s .now) (a .wholes .now) (a .n .0) (a .first .now)
+    (c .before .before .before .before .before .before .fill .last .1 .1 .1 .1 .1 .1 .1 .0)
+table-at c = (rw (c .before .before .before .if2 .taken) at (c .before .before .before .before .before .before .fill .ensures)) .1
+
+has-room-requires : tie.Need-has-room-requires
+has-room-requires c κs = search needs
+
+fill-requires : tie.Need-fill-requires
+fill-requires c κs = search needs
+
+fill-requires-2 : tie.Need-fill-requires-2
+fill-requires-2 c κs = search needs
+
+answer-requires : tie.Need-answer-requires
+answer-requires c κs =
+    let filled = c .before .before .before .before .before in
+    (tabulated (fits-at filled) (table-at filled) (filled .fill2 .result) (filled .fill2 .ensures), fits-at filled .room .witness)
+
+same-length : tie.Need-same-length
+same-length c = search needs
+
+same-length-2 : tie.Need-same-length-2
+same-length-2 c = search needs
+
+same-length-3 : tie.Need-same-length-3
+same-length-3 c = search needs
+
+returns : tie.Need-returns
+returns c =
+    let filled = c .before .before .before .before .before .before .before .before in
+    let answer = c .before .before .answer in
+    searches _ _ _ _ _ _ _ _ (answer .result) _ _ (answer .ensures .1)
+    (right (fits-at filled) (table-at filled) (filled .fill2 .result) (filled .fill2 .ensures) (answer .result) _ (answer .ensures .0))
+
+same-length-4 : tie.Need-same-length-4
+same-length-4 c = search needs
+
+returns-2 : tie.Need-returns-2
+returns-2 c =
+    let unfit = rw (c .if2 .left) at (c .before .before .before .fill .ensures) in
+    (λ fits. unfit .0 (fits .table), rw (unfit .1) refl)
+
+returns-3 : tie.Need-returns-3
+returns-3 c = (λ fits. told-not (c .before .has-room .result) (c .if1 .left) (c .before .has-room .ensures) (fits .room), refl)
+
+pub least-spec : {M : Type 1} → statement M
+least-spec =
+    tie.close
+    (tie.spec
+    has-room-requires
+    fill-requires
+    fill-requires-2
+    answer-requires
+    same-length
+    same-length-2
+    same-length-3
+    returns
+    same-length-4
+    returns-2
+    returns-3)
