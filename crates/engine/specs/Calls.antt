@@ -11,15 +11,10 @@ use Rattle.words.specs.declared.Asked.the-variants.{Passed, Refused}
 use Rattle.products.specs.Product.{generators, NoneRight, MemberRight}
 use Rattle.lists.specs.NormalList.{total}
 use Rattle.sizes.specs.Questions.{side}
+pub use Rattle.search.specs.Search.{Lent}
 use Rattle.engine.specs.Questions.{ofProduct}
 use Rattle.engine.specs.declared.Verdict.{Verdict}
 use Rattle.engine.specs.declared.Verdict.the-variants.{Member, None, Refused as Verdict·Refused}
-
--- What the caller lends: two tables of 16-bit numbers and a witness slice of bytes.
-pub record Lent : Type 0 where
-  pub first : List ℕ
-  pub second : List ℕ
-  pub witness : List ℕ
 
 -- the first q × q entries of a table are zero, and the others remain
 abbrev pub zeroed : ℕ → List ℕ → List ℕ

@@ -3,18 +3,29 @@ use mathlib.Core.Path.{_≡_}
 use mathlib.Core.List.{List}
 use Prim.Native.Nat.{ℕ, _*_, _≤_, _<_}
 use lib.ListN.{length, drop}
+use Rattle.limits.specs.Limits.{mostGenerators, mostOfList}
 use Rattle.words.specs.Word.{Word}
+use Rattle.words.specs.declared.Refusal.the-variants.{TableTooShort}
 use Rattle.products.specs.Product.{generators}
 use Rattle.products.specs.State.{AllNormal}
 use Rattle.sizes.specs.Questions.{side, ofSizes}
 use Rattle.trees.specs.Tree.{at}
 use Rattle.engine.specs.Calls.{Lent, VerdictRight, Judged}
+use Rattle.search.specs.declared.Found.{Found}
+use Rattle.search.specs.declared.Found.the-variants.{Series, None as Found·None, Unfit}
 use Rattle.engine.specs.declared.Verdict.{Verdict}
+use Rattle.engine.specs.declared.Verdict.the-variants.{Member, None, Refused}
+
+-- what a search finds, as a verdict
+abbrev pub ofFound : Found → Verdict
+ofFound (Series count) = Member count
+ofFound Found·None = None
+ofFound Unfit = Refused TableTooShort
 
 -- A list that has been reduced: its letters, one generator behind the other, and their ends.
 pub record ReducedList (letters ends : List ℕ) : Type 0 where
-  pub short : length letters ≤ 320
-  pub few : length ends ≤ 64
+  pub short : length letters ≤ mostOfList
+  pub few : length ends ≤ mostGenerators
   pub rising : (i j : ℕ) → i ≤ j → j < length ends → at ends i ≤ at ends j
   pub within : (j : ℕ) → j < length ends → at ends j ≤ length letters
   pub normal : AllNormal (generators letters ends)

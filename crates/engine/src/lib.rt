@@ -1,11 +1,5 @@
 // The bounded verdict: is the target a product of at most n generators?
-mod descent;
-mod entries;
 mod judging;
-mod path;
-mod stack;
-mod tight;
-mod witness;
 mod zeroing;
 
 use words::Asked;

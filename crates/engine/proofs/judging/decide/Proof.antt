@@ -1,5 +1,5 @@
--- A reduced list fits the local slices, so a tree is planted and searched. Assumes nothing.
-use mathlib.Core.Path.{_≡_, refl, sym, ap, _∙_}
+-- A reduced list fits the local slices, so the tree is built and searched. Assumes nothing.
+use mathlib.Core.Path.{_≡_, refl, sym, ap, subst, _∙_}
 use mathlib.Core.List.{List, [], _++_}
 use Prim.Native.Nat.{ℕ, suc, _*_, _≤_}
 use lib.ListN.{length, take, drop, replicate, drop-of-length-le}
@@ -12,8 +12,11 @@ use Rattle.trees.specs.Numbering.{numbered}
 use Rattle.trees.proofs.Remaining.{drop-later}
 use Rattle.sizes.specs.Questions.{side}
 use Rattle.sizes.proofs.Passing.{SizesPassed, sizes-passed}
-use Rattle.engine.specs.Witness.{Planted}
-use Rattle.engine.proofs.Planting.{list-fits, list-planted, table-within, rows-within}
+use Rattle.limits.specs.Limits.{mostGenerators, mostStates}
+use Rattle.trees.specs.Building.{Slices, BuildsTree, Builds}
+use Rattle.trees.specs.declared.Built.{Built}
+use Rattle.search.specs.Search.{Lent, Searches}
+use Rattle.engine.proofs.Posing.{list-fits, settled}
 use native.Mathlib.Omega.{arith}
 use borrow.Author.Needs.{needs}
 use Rattle.engine.proofs.judging.decide.Statement.{statement}
@@ -25,9 +28,9 @@ asked : (c : tie.Start)
     (length (c .args .first .now)) (length (c .args .second .now)) (length (c .args .witness .now))
 asked c = sizes-passed _ _ _ _ _ _ (c .pre .1 .1)
 
--- the front of an array of 64 is lent for the generators' nodes
-front : (c : tie.Start) → length (take (length (c .args .ends .now)) (replicate {A = ℕ} 64 0)) ≡ length (c .args .ends .now)
-front c = length-take-le (length (c .args .ends .now)) (replicate {A = ℕ} 64 0) (omega (arith, c .pre .0 .few))
+-- the front of an array is lent for the generators' nodes
+front : (c : tie.Start) → length (take (length (c .args .ends .now)) (replicate {A = ℕ} mostGenerators 0)) ≡ length (c .args .ends .now)
+front c = length-take-le (length (c .args .ends .now)) (replicate {A = ℕ} mostGenerators 0) (omega (arith, c .pre .0 .few))
 
 abbrev start : tie.After-count → tie.Start
 start c = c .before .before .before .before .before .before .before .before .before .before .before .before .before .before .before .before .before .before .before .before
@@ -35,24 +38,32 @@ start c = c .before .before .before .before .before .before .before .before .bef
 abbrev built : tie.After-count → tie.After-build
 built c = c .before .before .before .before .before .before .before
 
--- the tree that is built has few nodes, and is planted
-few-nodes : (c : tie.After-count) → c .count .given .0 .0 ≤ suc (length (start c .args .letters .now))
-few-nodes c = (rw (c .count .given .1) at (c .before .before .before .before .before .before .before .build .ensures)) .few
+-- the slices of the tree, before it is built and afterwards
+abbrev empty-slices : tie.After-count → Slices
+empty-slices c =
+    record {
+      letters = replicate mostStates 0;
+      rests = replicate mostStates 0;
+      childrenR = replicate mostStates 0;
+      childrenS = replicate mostStates 0;
+      wholes = take (length (start c .args .ends .now)) (replicate mostGenerators 0);
+    }
 
-planted : (c : tie.After-count)
-    → Planted (generators (start c .args .letters .now) (start c .args .ends .now))
-    (numbered (generators (start c .args .letters .now) (start c .args .ends .now))) (c .count .given .0 .0) (start c .args .n .0)
-    (built c .build .last .1 .1 .0) (built c .build .last .1 .1 .1 .0) (built c .build .last .1 .1 .1 .1 .0) (built c .build .last .1 .1 .1 .1 .1 .0)
-    (take (length (start c .args .ends .now)) (built c .build .last .1 .1 .1 .1 .1 .1 .0 ++ drop (length (start c .args .ends .now)) (replicate {A = ℕ} 64 0)))
-    (start c .args .form .now)
-planted c =
-    let b = c .before .before .before .before .before .before .before .build in
-    let p = start c .pre in
-    let k = length (start c .args .ends .now) in
-    rw (take-at (b .last .1 .1 .1 .1 .1 .1 .0) (drop k (replicate {A = ℕ} 64 0)) k (b .kept .1 .1 .1 .1 .1 .1 .0 ∙ front (start c)))
-    (list-planted (p .0) (p .1 .0)
-    (λ empty. omega (arith, c .before .before .before .before .before .before .before .before .before .before .before .before .before .if1 .left)) (asked (start c))
-    (rw (c .count .given .1) at (b .ensures)))
+abbrev tree-slices : tie.After-count → Slices
+tree-slices c =
+    let last = built c .build .last .1 .1 in
+    record {
+      letters = last .0;
+      rests = last .1 .0;
+      childrenR = last .1 .1 .0;
+      childrenS = last .1 .1 .1 .0;
+      wholes = last .1 .1 .1 .1 .0;
+    }
+
+tree : (c : tie.After-count) → BuildsTree (start c .args .letters .now) (start c .args .ends .now) (empty-slices c) (tree-slices c) (c .count .given .0 .0)
+tree c =
+    subst (λ (r : Built). Builds (start c .args .letters .now) (start c .args .ends .now) (empty-slices c) (tree-slices c) r)
+    (c .count .given .1) (built c .build .ensures)
 
 returns : tie.Need-returns
 returns c =
@@ -87,44 +98,37 @@ enum-told c = search needs
 enum-known-count : tie.Need-enum-known-count
 enum-known-count c = search needs
 
-slice-aggregate-search : tie.Need-slice-aggregate-search
-slice-aggregate-search c = search needs
+slice-aggregate-least : tie.Need-slice-aggregate-least
+slice-aggregate-least c = search needs
 
-slice-aggregate-search-2 : tie.Need-slice-aggregate-search-2
-slice-aggregate-search-2 c = search needs
+slice-aggregate-least-2 : tie.Need-slice-aggregate-least-2
+slice-aggregate-least-2 c = search needs
 
-slice-aggregate-search-3 : tie.Need-slice-aggregate-search-3
-slice-aggregate-search-3 c = search needs
+slice-aggregate-least-3 : tie.Need-slice-aggregate-least-3
+slice-aggregate-least-3 c = search needs
 
-slice-aggregate-search-4 : tie.Need-slice-aggregate-search-4
-slice-aggregate-search-4 c = search needs
+slice-aggregate-least-4 : tie.Need-slice-aggregate-least-4
+slice-aggregate-least-4 c = search needs
 
 array-share-prefix-wholes : tie.Need-array-share-prefix-wholes
 array-share-prefix-wholes c =
     let b = c .before .before .before .before .before .before .before .before .before .before .before .before .build in
     let begun = c .before .before .before .before .before .before .before .before .before .before .before .before .before .before .before .before .before .before .before .before .before .before .before .before .before in
-    omega (arith, length-front (replicate {A = ℕ} 64 0) (b .last .1 .1 .1 .1 .1 .1 .0) (length (begun .args .ends .now)) (b .kept .1 .1 .1 .1 .1 .1 .0), begun .pre .0 .few)
+    omega (arith, length-front (replicate {A = ℕ} mostGenerators 0) (b .last .1 .1 .1 .1 .1 .1 .0) (length (begun .args .ends .now)) (b .kept .1 .1 .1 .1 .1 .1 .0), begun .pre .0 .few)
 
-slice-aggregate-search-5 : tie.Need-slice-aggregate-search-5
-slice-aggregate-search-5 c =
+slice-aggregate-least-5 : tie.Need-slice-aggregate-least-5
+slice-aggregate-least-5 c =
     let b = c .before .before .before .before .before .before .before .before .before .before .before .before .before .build in
     let begun = c .before .before .before .before .before .before .before .before .before .before .before .before .before .before .before .before .before .before .before .before .before .before .before .before .before .before in
     let k = length (begun .args .ends .now) in
-    let all : List ℕ = replicate 64 0 in
+    let all : List ℕ = replicate mostGenerators 0 in
     sym (length-take-le k (b .last .1 .1 .1 .1 .1 .1 .0 ++ drop k all) (omega (arith, length-front all (b .last .1 .1 .1 .1 .1 .1 .0) k (b .kept .1 .1 .1 .1 .1 .1 .0), begun .pre .0 .few)))
 
-search-requires : tie.Need-search-requires
-search-requires c κs =
-    let counted = c .before .before .before .before .before .before .before .before .before in
-    let a = start counted .args in
-    let passed = asked (start counted) in
-    let few = few-nodes counted in
-    let m = length (a .letters .now) in
-    let t = length (a .form .now) in
-    let count = counted .count .given .0 .0 in (
-      (_, _, planted counted),
-      (omega (arith, table-within m t count few, passed .first-room), omega (arith, rows-within m t count few, passed .second-room), passed .room),
-    )
+least-requires : tie.Need-least-requires
+least-requires c κs = search needs
+
+verdict-of-requires : tie.Need-verdict-of-requires
+verdict-of-requires c κs = search needs
 
 returns-2 : tie.Need-returns-2
 returns-2 c =
@@ -142,18 +146,23 @@ same-length-3 c = search needs
 
 returns-3 : tie.Need-returns-3
 returns-3 c =
-    let counted = c .before .before .before .before .before .before .before .before .before .before .before .before .before .before .before .before in
-    let a = start counted .args in
-    let s = c .before .before .before .before .before .before .search in
-    let few = few-nodes counted in
-    let m = length (a .letters .now) in
-    let t = length (a .form .now) in
-    let count = counted .count .given .0 .0 in
-    record {
-      right = s .ensures .0 _ _ (planted counted);
-      first = drop-later (count * count) (side m t * side m t) (s .last .1 .1 .1 .1 .1 .1 .1 .1 .0) (a .first .now) (table-within m t count few) (s .ensures .1 .0);
-      second = drop-later (suc t * count) (side m t * side m t) (s .last .1 .1 .1 .1 .1 .1 .1 .1 .1 .0) (a .second .now) (rows-within m t count few) (s .ensures .1 .1);
-    }
+    let counted = c .before .before .before .before .before .before .before .before .before .before .before .before .before .before .before .before .before in
+    let b = built counted .build in
+    let begun = start counted in
+    let a = begun .args in
+    let found = c .before .before .before .before .before .before .before .least in
+    let k = length (a .ends .now) in
+    let lent : Lent = record { first = a .first .now; second = a .second .now; witness = a .witness .now } in
+    let lent′ : Lent = record { first = found .last .1 .1 .1 .1 .1 .1 .1 .1 .0; second = found .last .1 .1 .1 .1 .1 .1 .1 .1 .1 .0; witness = found .last .1 .1 .1 .1 .1 .1 .1 .1 .1 .1 .0 } in
+    let whole = take-at (b .last .1 .1 .1 .1 .1 .1 .0) (drop k (replicate {A = ℕ} mostGenerators 0)) k (b .kept .1 .1 .1 .1 .1 .1 .0 ∙ front begun) in
+    rw (c .verdict-of .ensures)
+    (settled (a .form .now) (a .n .0) (begun .pre .0) (tree counted) lent (asked begun) (begun .pre .1 .0)
+    (λ empty. omega (arith, counted .before .before .before .before .before .before .before .before .before .before .before .before .before .if1 .left)) lent′ (found .result)
+    (subst
+    (λ (wholes : List ℕ).
+    Searches (counted .count .given .0 .0) (b .last .1 .1 .0) (b .last .1 .1 .1 .0) (b .last .1 .1 .1 .1 .0) (b .last .1 .1 .1 .1 .1 .0) wholes (a .form .now) (a .n .0)
+    (found .result) lent lent′)
+    whole (found .ensures)))
 
 pub decide-spec : {M : Type 1} → statement M
 decide-spec =
@@ -169,13 +178,14 @@ decide-spec =
     build-requires
     enum-told
     enum-known-count
-    slice-aggregate-search
-    slice-aggregate-search-2
-    slice-aggregate-search-3
-    slice-aggregate-search-4
+    slice-aggregate-least
+    slice-aggregate-least-2
+    slice-aggregate-least-3
+    slice-aggregate-least-4
     array-share-prefix-wholes
-    slice-aggregate-search-5
-    search-requires
+    slice-aggregate-least-5
+    least-requires
+    verdict-of-requires
     returns-2
     same-length
     same-length-2
