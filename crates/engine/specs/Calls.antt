@@ -1,24 +1,20 @@
 -- What the bounded verdict promises. Document 01, "The verdict", and demand 3. Assumes nothing: these are definitions.
 use mathlib.Core.Path.{_≡_}
 use mathlib.Core.List.{List}
-use Prim.Native.Nat.{ℕ, _*_}
-use lib.ListN.{length, take, drop, replicate}
+use Prim.Native.Nat.{ℕ}
+use lib.ListN.{length, take, drop}
 use Rattle.words.specs.Word.{Word, nf}
 use Rattle.words.specs.Bytes.{word}
-use Rattle.words.specs.Slices.{overwritten}
 use Rattle.words.specs.declared.Asked.{Asked}
 use Rattle.words.specs.declared.Asked.the-variants.{Passed, Refused}
 use Rattle.products.specs.Product.{generators, NoneRight, MemberRight}
 use Rattle.lists.specs.NormalList.{total}
 use Rattle.sizes.specs.Questions.{side}
+use Rattle.sizes.specs.Zeroing.{zeroed}
 pub use Rattle.search.specs.Search.{Lent}
 use Rattle.engine.specs.Questions.{ofProduct}
 use Rattle.engine.specs.declared.Verdict.{Verdict}
 use Rattle.engine.specs.declared.Verdict.the-variants.{Member, None, Refused as Verdict·Refused}
-
--- the first q × q entries of a table are zero, and the others remain
-abbrev pub zeroed : ℕ → List ℕ → List ℕ
-zeroed q table = overwritten (replicate (q * q) 0) table
 
 -- A verdict on the target, by the list's generators and the bound, with what the witness holds before and after. Which of several least
 -- series is written is the program's choice; each has the least count and multiplies to the target.

@@ -1,6 +1,5 @@
 // From a list and a target to a verdict: both are reduced, the sizes are asked for, the tree is built, and a least series is searched for.
 use crate::Verdict;
-use crate::zeroing::zero;
 use search::Found;
 use trees::Built;
 use words::Asked;
@@ -114,9 +113,8 @@ fn judge_form(
         Asked::Refused(refusal) => Verdict::Refused(refusal),
         Asked::Passed => {
             let verdict = decide(letters, ends, form, n, first, second, witness);
-            let q = sizes::side(Letters(m), Letters(t));
-            zero(first, q * q);
-            zero(second, q * q);
+            sizes::zero_table(first, Letters(m), Letters(t));
+            sizes::zero_table(second, Letters(m), Letters(t));
             verdict
         }
     }

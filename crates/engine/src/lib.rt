@@ -1,6 +1,5 @@
 // The bounded verdict: is the target a product of at most n generators?
 mod judging;
-mod zeroing;
 
 use words::Asked;
 use words::Factors;

@@ -57,80 +57,94 @@ module _ {count n : ℕ} {letters rests childrenR childrenS wholes target table 
   by-rule (B a b (za, ha, la) (zb, hb, lb)) sum x y k e =
       let ra = rest-inside a za ha in
       let rb = rest-inside b zb hb in
-      moved rb k e
-      (One (at rests a) b, by-one (TightOne.B (record {
-        rest = ((za, la), refl);
-        child = (zb, sym (d .linked .r .agree b hb .rest zb lb));
-        same = omega (arith, sum, past, entry-at a (at rests b) ha rb, entry-at (at rests a) b ra hb);
-      })))
+      moved rb k e (
+        One (at rests a) b,
+        by-one (TightOne.B (record {
+          rest = ((za, la), refl);
+          child = (zb, sym (d .linked .r .agree b hb .rest zb lb));
+          same = omega (arith, sum, past, entry-at a (at rests b) ha rb, entry-at (at rests a) b ra hb);
+        })),
+      )
   by-rule (C a b (za, ha, la) (zr, hr, lr) (zb, hb, lb)) sum x y k e =
       let ra = rest-inside (at rests a) zr hr in
       let rb = rest-inside b zb hb in
-      moved rb k e
-      (One (at rests (at rests a)) b, by-one (TightOne.C (record {
-        first = (za, la);
-        rest = ((zr, lr), refl);
-        child = (zb, sym (d .linked .s .agree b hb .rest zb lb));
-        same = omega (arith, sum, past, entry-at a (at rests b) ha rb, entry-at (at rests (at rests a)) b ra hb);
-      })))
+      moved rb k e (
+        One (at rests (at rests a)) b,
+        by-one (TightOne.C (record {
+          first = (za, la);
+          rest = ((zr, lr), refl);
+          child = (zb, sym (d .linked .s .agree b hb .rest zb lb));
+          same = omega (arith, sum, past, entry-at a (at rests b) ha rb, entry-at (at rests (at rests a)) b ra hb);
+        })),
+      )
   by-rule (D a b (za, ha, la) (zb, hb, lb) (zr, hr, lr)) sum x y k e =
       let ra = rest-inside a za ha in
       let rb = rest-inside (at rests b) zr hr in
       let upper = d .linked .s .agree b hb .rest zb lb in
       let lower = d .linked .s .agree (at rests b) hr .rest zr lr in
-      moved rb k e
-      (One (at rests a) b, by-one (TightOne.D (record {
-        rest = ((za, la), refl);
-        some = rw lower zr;
-        child = (zb, rw lower (sym upper));
-        same = omega (arith, sum, past, entry-at a (at rests (at rests b)) ha rb, entry-at (at rests a) b ra hb);
-      })))
+      moved rb k e (
+        One (at rests a) b,
+        by-one (TightOne.D (record {
+          rest = ((za, la), refl);
+          some = rw lower zr;
+          child = (zb, rw lower (sym upper));
+          same = omega (arith, sum, past, entry-at a (at rests (at rests b)) ha rb, entry-at (at rests a) b ra hb);
+        })),
+      )
   by-rule (E a v b (za, ha, la) (zv, hv, lv) (zb, hb, lb)) sum x y k e =
       let ra = rest-inside a za ha in
       let rv = rest-inside v zv hv in
       let rb = rest-inside b zb hb in
-      moved rb k e
-      (Two (at rests a) v (at rests v) b, by-two (TightTwo.E (record {
-        rest = ((za, la), refl);
-        child = (zb, sym (d .linked .s .agree b hb .rest zb lb));
-        node = hv;
-        middle = ((zv, lv), omega (arith, sum, entry-at a (at rests b) ha rb, entry-at (at rests a) v ra hv, entry-at (at rests v) b rv hb));
-      })))
+      moved rb k e (
+        Two (at rests a) v (at rests v) b,
+        by-two (TightTwo.E (record {
+          rest = ((za, la), refl);
+          child = (zb, sym (d .linked .s .agree b hb .rest zb lb));
+          node = hv;
+          middle = ((zv, lv), omega (arith, sum, entry-at a (at rests b) ha rb, entry-at (at rests a) v ra hv, entry-at (at rests v) b rv hb));
+        })),
+      )
   by-rule (F u v q hu hv hq) sum x y k e =
       moved hq k e
       (Two u v v q, by-two (TightTwo.F (record { node = hv; sum = omega (arith, sum, entry-at u q hu hq, entry-at u v hu hv, entry-at v q hv hq) })))
   by-rule (GR a b (za, ha, la) (zb, hb, lb)) sum x y k e =
       let ra = rest-inside a za ha in
       let rb = rest-inside b zb hb in
-      moved hb k e
-      (One (at rests a) (at rests b), by-one (TightOne.G (record {
-        some = (za, zb);
-        letter = la ∙ sym lb;
-        rest = (refl, refl);
-        same = omega (arith, sum, past, entry-at a b ha hb, entry-at (at rests a) (at rests b) ra rb);
-      })))
+      moved hb k e (
+        One (at rests a) (at rests b),
+        by-one (TightOne.G (record {
+          some = (za, zb);
+          letter = la ∙ sym lb;
+          rest = (refl, refl);
+          same = omega (arith, sum, past, entry-at a b ha hb, entry-at (at rests a) (at rests b) ra rb);
+        })),
+      )
   by-rule (GS a b (za, ha, la) (zb, hb, lb)) sum x y k e =
       let ra = rest-inside a za ha in
       let rb = rest-inside b zb hb in
-      moved hb k e
-      (One (at rests a) (at rests b), by-one (TightOne.G (record {
-        some = (za, zb);
-        letter = la ∙ sym lb;
-        rest = (refl, refl);
-        same = omega (arith, sum, past, entry-at a b ha hb, entry-at (at rests a) (at rests b) ra rb);
-      })))
+      moved hb k e (
+        One (at rests a) (at rests b),
+        by-one (TightOne.G (record {
+          some = (za, zb);
+          letter = la ∙ sym lb;
+          rest = (refl, refl);
+          same = omega (arith, sum, past, entry-at a b ha hb, entry-at (at rests a) (at rests b) ra rb);
+        })),
+      )
 
   -- the last rule by which an entry is made is tight there: what its premises are made with is no less than their entries
   by-made : {c v : ℕ} → Made count letters rests wholes c v → entry front c ≡ v → v ≤ n → (x y : ℕ) → y < count → c ≡ place count x y → Found x y
   by-made (whole j h) is small x y k e =
       let node = d .shape .whole-inside j h in
-      moved node k e
-      (Writes j, factor (record {
-        factor = h;
-        nothing = refl;
-        whole = refl;
-        one = omega (arith, is, entry-at 0 (at wholes j) (d .shape .some) node);
-      }))
+      moved node k e (
+        Writes j,
+        factor (record {
+          factor = h;
+          nothing = refl;
+          whole = refl;
+          one = omega (arith, is, entry-at 0 (at wholes j) (d .shape .some) node);
+        }),
+      )
   by-made (one {p} {q} {c} rule beyond made) is small x y k e =
       let none : entry front q ≡ 0 = List·getD-eq-default front 0 {n = q} (omega (arith, d .full .counts .long)) in
       let low = made-least (d .full) made small in

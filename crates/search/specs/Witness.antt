@@ -6,7 +6,6 @@ use lib.ListN.{length, take, drop}
 use Rattle.words.specs.Word.{Word}
 use Rattle.products.specs.Product.{Series, Reaches}
 
-
 -- The first k bytes are the factors of a series that reaches the target, k is their number and the last row's entry, and the rest remains.
 pub record Spelled (gens : List Word) (target : Word) (k entry : ℕ) (before after : List ℕ) : Type 0 where
   pub series : Series gens (take k after)

@@ -1,3 +1,2 @@
-pub mod Square
-mod Refusing
+mod SquareFits
 pub mod Passing

@@ -15,10 +15,18 @@ side m t = m + 2 * t + 1
 abbrev pub question13 : ℕ → Asked
 question13 n = asks (leb n mostFactors) BoundTooLarge
 
--- 15: "Has each table at least q × q entries?"
-abbrev pub question15 : ℕ → ℕ → ℕ → Asked
-question15 q first second = firstNo (asks (leb (q * q) first) TableTooShort ∷ asks (leb (q * q) second) TableTooShort ∷ [])
+-- 15: "Has each table at least q × q entries?" Of one table.
+abbrev pub question15 : ℕ → ℕ → Asked
+question15 q table = asks (leb (q * q) table) TableTooShort
+
+-- 13, and 14 for a witness
+abbrev pub ofBound : ℕ → ℕ → Asked
+ofBound n witness = firstNo (question13 n ∷ question14 n witness ∷ [])
+
+-- 15 of both tables
+abbrev pub ofTables : ℕ → ℕ → ℕ → Asked
+ofTables q first second = firstNo (question15 q first ∷ question15 q second ∷ [])
 
 -- what is asked once m and t are known: 12; 13; 14 for the witness; 15
 abbrev pub ofSizes : ℕ → ℕ → ℕ → ℕ → ℕ → ℕ → Asked
-ofSizes m t n first second witness = firstNo (question12 t ∷ question13 n ∷ question14 n witness ∷ question15 (side m t) first second ∷ [])
+ofSizes m t n first second witness = firstNo (question12 t ∷ ofBound n witness ∷ ofTables (side m t) first second ∷ [])

@@ -30,10 +30,12 @@ same-length c = search needs
 
 returns-2 : tie.Need-returns-2
 returns-2 c =
-    let tabulated = c .before .before .before .before .before .before .before .before .before .before .before .before .before .before .before .before .pre .0 in
-    ((λ gens words query.
-        let s = c .before .before .write-witness .ensures gens words query in
-        (decided-member query (tabulated .rows-right) (omega (arith, c .before .before .before .before .before .cell .ensures .0)) s, s .rest)), tt)
+    let tabulated = c .before .before .before .before .before .before .before .before .before .before .before .before .before .before .before .before .pre .0 in (
+      (λ gens words query.
+          let s = c .before .before .write-witness .ensures gens words query in
+          (decided-member query (tabulated .rows-right) (omega (arith, c .before .before .before .before .before .cell .ensures .0)) s, s .rest)),
+      tt,
+    )
 
 pub answer-spec : {M : Type 1} → statement M
 answer-spec =

@@ -5,9 +5,7 @@ use lib.ListN.{length, length-map}
 use Rattle.words.specs.Bytes.{letter, word}
 use Rattle.products.specs.Product.{generators}
 use Rattle.sizes.specs.Questions.{side, ofSizes}
-use Rattle.sizes.proofs.Square.{square-fits}
 use Rattle.sizes.proofs.Passing.{SizesPassed, sizes-passed}
-use Rattle.engine.specs.Calls.{zeroed}
 use Rattle.engine.proofs.Verdicts.{judged-refused, judged-settled}
 use native.Mathlib.Omega.{arith}
 use borrow.Author.Needs.{needs}
@@ -17,17 +15,15 @@ use Rattle.engine.proofs.judging.judge_form.Tie as tie
 abbrev start : tie.After-enum-told → tie.Start
 start c = c .before .before .before .before .before .before .before .before .before
 
+-- where the sizes have passed, from where the verdict is settled
+abbrev decided : tie.After-decide → tie.After-enum-told
+decided c = c .before .before .before .before
+
 -- the sizes have passed
 asked : (c : tie.After-enum-told)
     → SizesPassed (length (start c .args .letters .now)) (length (start c .args .form .now)) (start c .args .n .0)
     (length (start c .args .first .now)) (length (start c .args .second .now)) (length (start c .args .witness .now))
 asked c = sizes-passed _ _ _ _ _ _ (sym (c .before .before .of-sizes .ensures) ∙ c .enum-told .given .1)
-
--- and so q * q is a number of 64 bits
-square : (c : tie.After-side) → c .side .result * c .side .result ≤ 38653919236
-square c =
-    let told = c .before .before .before .before .before .before .before .before .before .before .before in
-    rw (c .side .ensures) (square-fits _ _ (omega (arith, start told .pre .0 .short)) (omega (arith, asked told .short)))
 
 cast-m : tie.Need-cast-m
 cast-m c = search needs
@@ -49,24 +45,11 @@ decide-requires c κs =
     let p = c .before .before .before .before .before .before .before .before .before .before .before .before .pre in
     (p .0, (p .1 .0, sym (c .before .before .before .before .before .of-sizes .ensures) ∙ c .before .before .before .enum-told .given .1))
 
-side-requires : tie.Need-side-requires
-side-requires c κs = search needs
+zero-table-requires : tie.Need-zero-table-requires
+zero-table-requires c κs = search needs
 
-mul-zero : tie.Need-mul-zero
-mul-zero c = omega (arith, square (c .before))
-
-zero-requires : tie.Need-zero-requires
-zero-requires c κs =
-    let passed = asked (c .before .before .before .before .before .before .before .before .before .before .before .before) in
-    rw (c .before .side .ensures) (omega (arith, passed .first-room, c .before .before .before .before .before .before .before .before .decide .kept .1 .1 .1 .1 .0))
-
-mul-zero-2 : tie.Need-mul-zero-2
-mul-zero-2 c = omega (arith, square (c .before .before .before .before .before))
-
-zero-requires-2 : tie.Need-zero-requires-2
-zero-requires-2 c κs =
-    let passed = asked (c .before .before .before .before .before .before .before .before .before .before .before .before .before .before .before .before) in
-    rw (c .before .before .before .before .before .side .ensures) (omega (arith, passed .second-room, c .before .before .before .before .before .before .before .before .before .before .before .before .decide .kept .1 .1 .1 .1 .1 .0))
+zero-table-requires-2 : tie.Need-zero-table-requires-2
+zero-table-requires-2 c κs = search needs
 
 returns : tie.Need-returns
 returns c =
@@ -94,9 +77,8 @@ same-length-3 c = search needs
 
 returns-2 : tie.Need-returns-2
 returns-2 c =
-    let told = c .before .before .before .before .before .before .before .before .before .before .before .before .before .before .before .before .before .before .before in
-    let d = c .before .before .before .before .before .before .before .before .before .before .before .before .before .before .before .decide in
-    let s = c .before .before .before .before .before .before .before .before .side in
+    let told = decided (c .before .before .before .before .before .before .before .before .before .before .before .before .before .before) in
+    let d = c .before .before .before .before .before .before .before .before .before .before .before .before .before .before .decide in
     let a = start told .args in
     let letters = a .letters .now in
     let ends = a .ends .now in
@@ -106,16 +88,18 @@ returns-2 c =
     let witness = a .witness .now in
     let m = length letters in
     let t = length (word form) in
-    let q : s .result ≡ side m t = s .ensures ∙ ap (side m) (sym (length-map form letter)) in
+    let same = length-map form letter in
     judged-settled (ofSizes m t (a .n .0) (length first) (length second) (length witness)) (side m t) (generators letters ends) (word form) (a .n .0)
     (d .result)
     (record { first = first; second = second; witness = witness })
     (record { first = d .last .1 .1 .1 .1 .0; second = d .last .1 .1 .1 .1 .1 .0; witness = d .last .1 .1 .1 .1 .1 .1 .0 })
-    (record { first = c .before .before .before .before .before .before .zero .last .0; second = c .before .before .zero2 .last .0; witness = d .last .1 .1 .1 .1 .1 .1 .0 })
-    (rw (length-map form letter) (sym (told .before .before .of-sizes .ensures) ∙ told .enum-told .given .1))
-    (rw (length-map form letter) (d .ensures))
-    (c .before .before .before .before .before .before .zero .ensures ∙ ap (λ (k : ℕ). zeroed k (d .last .1 .1 .1 .1 .0)) q)
-    (c .before .before .zero2 .ensures ∙ ap (λ (k : ℕ). zeroed k (d .last .1 .1 .1 .1 .1 .0)) q)
+    (record { first = c .before .before .before .before .before .before .zero-table .last .0; second = c .before .before .zero-table2 .last .0; witness = d .last .1 .1 .1 .1 .1 .1 .0 })
+    (rw same (sym (told .before .before .of-sizes .ensures) ∙ told .enum-told .given .1))
+    (rw same (d .ensures))
+    (rw same (omega (arith, asked told .first-room, d .kept .1 .1 .1 .1 .0)))
+    (rw same (c .before .before .before .before .before .before .zero-table .ensures))
+    (rw same (omega (arith, asked told .second-room, d .kept .1 .1 .1 .1 .1 .0)))
+    (rw same (c .before .before .zero-table2 .ensures))
     refl
 
 pub judge-form-spec : {M : Type 1} → statement M
@@ -128,11 +112,8 @@ judge-form-spec =
     enum-known-refusal
     enum-told
     decide-requires
-    side-requires
-    mul-zero
-    zero-requires
-    mul-zero-2
-    zero-requires-2
+    zero-table-requires
+    zero-table-requires-2
     returns
     same-length
     same-length-2

@@ -6,8 +6,8 @@ use lib.ListN.{length, drop, set, replicate, length-set, length-replicate}
 use borrow.Author.Fill.{fill-more}
 use borrow.Author.Needs.{needs}
 use native.Mathlib.Omega.{arith}
-use Rattle.engine.proofs.zeroing.zero.Statement.{statement}
-use Rattle.engine.proofs.zeroing.zero.Tie as tie
+use Rattle.sizes.proofs.zeroing.zero.Statement.{statement}
+use Rattle.sizes.proofs.zeroing.zero.Tie as tie
 
 abbrev Inv-loop : tie.InvT-loop
 Inv-loop table₀ count i₀ table i = (i ≤ count) × (table ≡ replicate i 0 ++ drop i table₀) × (length table ≡ length table₀)
