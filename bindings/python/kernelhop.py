@@ -21,7 +21,7 @@ import operator
 import os
 import threading
 from array import array
-from collections.abc import Mapping, MappingView, Set
+from collections.abc import Collection, Mapping, MappingView, Sequence, Set
 from dataclasses import dataclass
 from itertools import accumulate
 
@@ -218,12 +218,20 @@ def _letters(text):
     return text.encode("ascii", "replace")
 
 
+def _in_order(words):
+    """Sequences have their words in the caller's order, and so has an iterator. Sets, dicts and their views have not, nor has any other collection that
+    cannot be indexed."""
+    if isinstance(words, Sequence):
+        return True
+    return not isinstance(words, (Set, Mapping, MappingView)) and (hasattr(words, "__getitem__") or not isinstance(words, Collection))
+
+
 def _list(generators):
     """The letters of the generators, one behind the other, and their ends."""
     if not isinstance(generators, (list, tuple)):
         if isinstance(generators, (str, bytes, bytearray)):
             raise TypeError("generators: a list of words, and not one word")
-        if isinstance(generators, (Set, Mapping, MappingView)):
+        if not _in_order(generators):
             raise TypeError(f"generators: a list of words, and not {type(generators).__name__}, whose order is not the caller's")
     generators = tuple(generators)
     try:

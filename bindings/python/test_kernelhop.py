@@ -124,13 +124,40 @@ class Verdicts(Case):
                 verdict(["R"], "R", given)
 
     def test_words_without_an_order_of_the_caller(self):
+        class Bag:
+            """A collection that is no set, and has no indices."""
+
+            def __contains__(self, word):
+                return word == "R"
+
+            def __iter__(self):
+                return iter(["R"])
+
+            def __len__(self):
+                return 1
+
         table = {"R": 1, "S": 2}
-        for given in [{"R", "S"}, frozenset(["R"]), table, table.keys(), table.values(), table.items(), collections.Counter("RS"), set()]:
-            with self.assertRaisesRegex(TypeError, "order is not the caller's"):
+        for given in [{"R", "S"}, frozenset(["R"]), table, table.keys(), table.values(), table.items(), collections.Counter("RS"), set(), Bag()]:
+            with self.assertRaisesRegex(TypeError, f"not {type(given).__name__}, whose order is not the caller's"):
                 verdict(given, "R", 1)
 
     def test_words_in_an_order(self):
-        for given in [["S", "R"], ("S", "R"), iter(["S", "R"]), (w for w in "SR"), collections.deque(["S", "R"]), collections.UserList("SR")]:
+        class Indexed:
+            """A collection with indices that is not registered as a sequence, as arrays of numbers are."""
+
+            def __contains__(self, word):
+                return word in "SR"
+
+            def __getitem__(self, place):
+                return "SR"[place]
+
+            def __len__(self):
+                return 2
+
+            def __iter__(self):
+                return iter("SR")
+
+        for given in [["S", "R"], ("S", "R"), iter(["S", "R"]), (w for w in "SR"), collections.deque("SR"), collections.UserList("SR"), Indexed()]:
             self.assertEqual(verdict(given, "R", 1), Member((1,)))
 
 
