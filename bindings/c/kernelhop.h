@@ -33,6 +33,8 @@ struct kernelhop_outcome {
 enum {
     KERNELHOP_NONE = 255,
     KERNELHOP_FORM = 80, /* room for the normal form of a matrix */
+    KERNELHOP_SIDE = 481, /* the largest q of a verdict that questions 11 and 12 let pass */
+    KERNELHOP_BOUND = 1000, /* the largest n that question 13 lets pass */
     KERNELHOP_STACK = 131072
 };
 
@@ -67,7 +69,8 @@ struct kernelhop_outcome kernelhop_matrix_to_word(int64_t a, int64_t b, int64_t 
    A member: value is k, the least number of factors, and the first k bytes of `witness` are generator numbers whose words, written one behind the
    other, equal the target by the two rules. Which of several least series they are is left free. The rest of `witness` remains; for none all of it.
    With m the sum of the lengths of the generators' normal forms, t the length of the target's, and q = m + 2 * t + 1: after a member or none the
-   first q * q entries of both tables are 0 and the others remain, whatever stood there. kernelhop_reduce tells the lengths.
+   first q * q entries of both tables are 0 and the others remain, whatever stood there. kernelhop_reduce tells the lengths; tables of KERNELHOP_SIDE *
+   KERNELHOP_SIDE entries and KERNELHOP_BOUND bytes of witness are enough for every list, and need not be cleared between two calls.
    Asks: 7, at most 64 generators; 8, at most 4,096 letters in the list and in the target; 9, ends that never fall, the last of them bytes_len
    (place: the first that falls, else ends_len); 10, every letter R or S (place: the first that is not; the target's count on from the list's); 11,
    each generator's normal form at most 80 letters, and the sum up to it at most 320 (place: the first generator where it fails); 12, the target's

@@ -160,6 +160,23 @@ static void verdicts(void) {
     free(second);
 }
 
+/* Four generators and a target of 80 letters in normal form: no call needs larger tables. */
+static void largest_tables(void) {
+    static uint16_t first[KERNELHOP_SIDE * KERNELHOP_SIDE];
+    static uint16_t second[KERNELHOP_SIDE * KERNELHOP_SIDE];
+    static uint8_t witness[KERNELHOP_BOUND];
+    const size_t len = KERNELHOP_SIDE * KERNELHOP_SIDE;
+    const uint16_t ends[] = {80, 160, 240, 320};
+    uint8_t bytes[320];
+    for (size_t i = 0; i < sizeof bytes; i++) {
+        bytes[i] = i % 2 == 0 ? 'S' : 'R';
+    }
+    const uint8_t *target = bytes;
+    CHECK(is(kernelhop_judge(bytes, 320, ends, 4, target, 80, KERNELHOP_BOUND, first, len - 1, second, len, witness, KERNELHOP_BOUND), 15, 0));
+    CHECK(is(kernelhop_judge(bytes, 320, ends, 4, target, 80, KERNELHOP_BOUND, first, len, second, len, witness, KERNELHOP_BOUND), 0, 1));
+    CHECK(is(kernelhop_judge(bytes, 320, ends, 4, target, 80, KERNELHOP_BOUND + 1, first, len, second, len, witness, KERNELHOP_BOUND), 13, 0));
+}
+
 static void cards(void) {
     const uint8_t card[] = {0x0B, 3, 0, 6, 0, 'S', 'R', 'S', 'R', 'S', 'R', 1, 2, 0, 'S', 'R'};
     uint16_t first[225] = {0};
@@ -179,6 +196,7 @@ static void *all(void *nothing) {
     normality();
     matrices();
     verdicts();
+    largest_tables();
     cards();
     return nothing;
 }

@@ -1,5 +1,5 @@
-//! The calls on slices that the caller lends, for those who make many calls and keep the tables. Each takes slices of any length and any content: it answers,
-//! or it refuses, and a refusal changes nothing.
+//! The calls on slices that the caller lends, for those who keep the tables themselves. Each takes slices of any length and any content: it answers, or it
+//! refuses, and a refusal changes nothing.
 //!
 //! All that is unsafe is here. The library takes for granted what a Rust slice is: a pointer that is aligned and valid for its length, entries that have been
 //! written, and, of two slices, no overlap where one of them is mutable.
