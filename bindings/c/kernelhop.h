@@ -1,4 +1,5 @@
-/* Bounded products in the modular group, for C and C++. Link target/staticlib/libkernelhop.a, which `rt staticlib kernelhop` makes.
+/* Bounded products in the modular group, for C and C++. Link target/staticlib/libkernelhop.a, which `rt staticlib kernelhop` makes; kernelhop_version says
+   which release it is.
 
    Words are in the letters R (byte 82) and S (byte 83), where RR and SSS vanish and no other rule holds. A lent slice is a pointer and its length,
    counted in entries and not in bytes. Every call takes any content and any length: it answers, or it refuses by the first of its questions that is
@@ -9,7 +10,8 @@
    - Each of those entries has been written, also where only the call is going to write.
    - A slice that is written (`uint8_t *`, `uint16_t *`, `out` of the matrix) overlaps no other one of the call. Slices that are only read may overlap.
    - No other thread writes what is lent before the call returns. The library keeps nothing between calls, so calls may run at the same time.
-   - The stack has KERNELHOP_STACK bytes left. No proof bounds a stack; the frames on x86-64 take less than half of that. */
+   - The stack has KERNELHOP_STACK bytes left. No proof bounds a stack; on x86-64 kernelhop_is_normal takes 66,000 bytes for a normal word of 4,096
+     letters, which it goes through by calls inside calls, and the other calls take less than 32,768. */
 #ifndef KERNELHOP_H
 #define KERNELHOP_H
 
@@ -31,8 +33,14 @@ struct kernelhop_outcome {
 enum {
     KERNELHOP_NONE = 255,
     KERNELHOP_FORM = 80, /* room for the normal form of a matrix */
-    KERNELHOP_STACK = 65536
+    KERNELHOP_SIDE = 481, /* the largest q of a verdict that questions 11 and 12 let pass */
+    KERNELHOP_BOUND = 1000, /* the largest n that question 13 lets pass */
+    KERNELHOP_STACK = 131072
 };
+
+/* The release that is linked: 10,000 times its major number, 100 times its minor one, and its patch number. So release 1.0.0 is 10000, and a later
+   release has a larger number. */
+uint32_t kernelhop_version(void);
 
 /* Writes the normal form of the word to the front of `out`; value is its length. The bytes behind it remain.
    Asks: 8, at most 4,096 letters; 10, every letter R or S (place: the first that is not); 14, out_len at least word_len. */
@@ -41,6 +49,10 @@ struct kernelhop_outcome kernelhop_reduce(const uint8_t *word, size_t word_len, 
 /* Writes the normal form of the word's inverse to the front of `out`; value is its length. The bytes behind it remain.
    Asks: 8 and 10 as reduction does; 14, out_len at least twice word_len. */
 struct kernelhop_outcome kernelhop_invert(const uint8_t *word, size_t word_len, uint8_t *out, size_t out_len);
+
+/* Is the word in normal form, without RR and SSS in it? value is 1 if it is, and 0 if it is not.
+   Asks: 8 and 10 as reduction does. */
+struct kernelhop_outcome kernelhop_is_normal(const uint8_t *word, size_t word_len);
 
 /* Writes the word's matrix (a b; c d) to `out`, in this order; value is 0. R is (0 -1; 1 0) and S is (1 -1; 1 0); of the two signs it is the one
    whose first non-zero entry among a, b is positive. `out` is never null.
@@ -57,7 +69,8 @@ struct kernelhop_outcome kernelhop_matrix_to_word(int64_t a, int64_t b, int64_t 
    A member: value is k, the least number of factors, and the first k bytes of `witness` are generator numbers whose words, written one behind the
    other, equal the target by the two rules. Which of several least series they are is left free. The rest of `witness` remains; for none all of it.
    With m the sum of the lengths of the generators' normal forms, t the length of the target's, and q = m + 2 * t + 1: after a member or none the
-   first q * q entries of both tables are 0 and the others remain, whatever stood there. kernelhop_reduce tells the lengths.
+   first q * q entries of both tables are 0 and the others remain, whatever stood there. kernelhop_reduce tells the lengths; tables of KERNELHOP_SIDE *
+   KERNELHOP_SIDE entries and KERNELHOP_BOUND bytes of witness are enough for every list, and need not be cleared between two calls.
    Asks: 7, at most 64 generators; 8, at most 4,096 letters in the list and in the target; 9, ends that never fall, the last of them bytes_len
    (place: the first that falls, else ends_len); 10, every letter R or S (place: the first that is not; the target's count on from the list's); 11,
    each generator's normal form at most 80 letters, and the sum up to it at most 320 (place: the first generator where it fails); 12, the target's

@@ -32,8 +32,16 @@ static struct kernelhop_outcome invert(const char *word, char *out, size_t out_l
     return kernelhop_invert((const uint8_t *)word, strlen(word), (uint8_t *)out, out_len);
 }
 
+static struct kernelhop_outcome is_normal(const char *word) {
+    return kernelhop_is_normal((const uint8_t *)word, strlen(word));
+}
+
 static struct kernelhop_outcome word_to_matrix(const char *word, int64_t out[4]) {
     return kernelhop_word_to_matrix((const uint8_t *)word, strlen(word), out);
+}
+
+static void version(void) {
+    CHECK(kernelhop_version() >= 10000);
 }
 
 static void words(void) {
@@ -53,6 +61,26 @@ static void words(void) {
     memset(many, 'S', sizeof many);
     CHECK(is(kernelhop_reduce(many, 4096, room, 4096), 0, 1));
     CHECK(is(kernelhop_reduce(many, 4097, room, 4097), 8, 0));
+}
+
+static void normality(void) {
+    CHECK(is(is_normal(""), 0, 1));
+    CHECK(is(is_normal("SSRSRSS"), 0, 1));
+    CHECK(is(is_normal("SRRS"), 0, 0));
+    CHECK(is(is_normal("RSSS"), 0, 0));
+    CHECK(is(is_normal("RRx"), 10, 2));
+    CHECK(is(kernelhop_is_normal(NULL, 0), 0, 1));
+
+    /* As deep as the test of normality goes. */
+    static uint8_t many[4097];
+    for (size_t i = 0; i < sizeof many; i++) {
+        many[i] = i % 2 == 0 ? 'R' : 'S';
+    }
+    CHECK(is(kernelhop_is_normal(many, 4096), 0, 1));
+    CHECK(is(kernelhop_is_normal(many + 1, 4096), 0, 1));
+    CHECK(is(kernelhop_is_normal(many, 4097), 8, 0));
+    many[4095] = 'R';
+    CHECK(is(kernelhop_is_normal(many, 4096), 0, 0));
 }
 
 static void matrices(void) {
@@ -132,6 +160,23 @@ static void verdicts(void) {
     free(second);
 }
 
+/* Four generators and a target of 80 letters in normal form: no call needs larger tables. */
+static void largest_tables(void) {
+    static uint16_t first[KERNELHOP_SIDE * KERNELHOP_SIDE];
+    static uint16_t second[KERNELHOP_SIDE * KERNELHOP_SIDE];
+    static uint8_t witness[KERNELHOP_BOUND];
+    const size_t len = KERNELHOP_SIDE * KERNELHOP_SIDE;
+    const uint16_t ends[] = {80, 160, 240, 320};
+    uint8_t bytes[320];
+    for (size_t i = 0; i < sizeof bytes; i++) {
+        bytes[i] = i % 2 == 0 ? 'S' : 'R';
+    }
+    const uint8_t *target = bytes;
+    CHECK(is(kernelhop_judge(bytes, 320, ends, 4, target, 80, KERNELHOP_BOUND, first, len - 1, second, len, witness, KERNELHOP_BOUND), 15, 0));
+    CHECK(is(kernelhop_judge(bytes, 320, ends, 4, target, 80, KERNELHOP_BOUND, first, len, second, len, witness, KERNELHOP_BOUND), 0, 1));
+    CHECK(is(kernelhop_judge(bytes, 320, ends, 4, target, 80, KERNELHOP_BOUND + 1, first, len, second, len, witness, KERNELHOP_BOUND), 13, 0));
+}
+
 static void cards(void) {
     const uint8_t card[] = {0x0B, 3, 0, 6, 0, 'S', 'R', 'S', 'R', 'S', 'R', 1, 2, 0, 'S', 'R'};
     uint16_t first[225] = {0};
@@ -146,9 +191,12 @@ static void cards(void) {
 }
 
 static void *all(void *nothing) {
+    version();
     words();
+    normality();
     matrices();
     verdicts();
+    largest_tables();
     cards();
     return nothing;
 }
@@ -161,6 +209,7 @@ int main(void) {
         fprintf(stderr, "no thread with a stack of %d bytes\n", KERNELHOP_STACK);
         return 2;
     }
-    printf("%d checks, %d failed\n", checks, failures);
+    unsigned release = kernelhop_version();
+    printf("release %u.%u.%u, %d checks, %d failed\n", release / 10000, release / 100 % 100, release % 100, checks, failures);
     return failures != 0;
 }

@@ -1,25 +1,31 @@
-"""Bounded products in the modular group, over the proved library of this repository.
+"""Bounded products in the modular group, over the proved library of this repository, whose release is `__version__`.
 
 Words are in the letters R and S, where RR and SSS vanish and no other rule holds. Each function takes any words whatever: it answers, or it raises
 Refused.
 
-    >>> verdict(["RSRS", "S", "SRSS"], "R", 3)
+    >>> import kernelhop
+    >>> kernelhop.verdict(["RSRS", "S", "SRSS"], "R", 3)
     Member(factors=(0, 1, 2))
-    >>> verdict(["RSRS", "S", "SRSS"], "R", 2)
+    >>> kernelhop.verdict(["RSRS", "S", "SRSS"], "R", 2)
     NoMember(n=2)
-    >>> reduce("SRT")
+    >>> kernelhop.reduce("SRT")
     Traceback (most recent call last):
     kernelhop.Refused: refused by question 10, place 2: a letter is not R or S
 
 `bindings/python/build` makes the shared library. It is looked for in the folder that KERNELHOP_LIB_DIR names, or else beside this file and in the
-repository's target/python.
+repository's target/python. A thread makes the tables of its verdicts at the first of them and keeps them until it ends: up to 926,444 bytes a thread.
 """
 
 import ctypes
 import operator
 import os
+import threading
+from array import array
+from collections.abc import Collection, Mapping, MappingView, Sequence, Set
 from dataclasses import dataclass
 from itertools import accumulate
+
+__all__ = ["Member", "NoMember", "Refused", "answer_card", "invert", "is_normal", "matrix", "reduce", "verdict", "word"]
 
 # What a no to each question says, question 1 first. The Rust package has the same texts.
 TEXTS = (
@@ -47,14 +53,14 @@ NONE = 255
 # The letters that a matrix's normal form may have (question 14).
 FORM = 80
 
-# Question 15, whether the tables are long enough, is the last one that a verdict asks.
-TABLES = 15
-
 # The largest q that questions 11 and 12 let pass: 320 letters in the generators' normal forms, and 80 in the target's.
 LARGEST_SIDE = 320 + 2 * 80 + 1
 
 # The largest n that question 13 lets pass.
 LARGEST_BOUND = 1000
+
+# The largest number of 16 bits.
+LARGEST_SHORT = 65535
 
 
 class Refused(ValueError):
@@ -96,19 +102,28 @@ class NoMember:
 
 def reduce(word):
     """The normal form of a word. Asks questions 8 and 10."""
-    return _written("reduce", [_letters(word)], len(word))
+    letters = _letters(word)
+    return _written(_reduce, letters, len(letters), room=len(letters))
 
 
 def invert(word):
     """The normal form of a word's inverse. Asks questions 8 and 10."""
-    return _written("invert", [_letters(word)], 2 * len(word))
+    letters = _letters(word)
+    return _written(_invert, letters, len(letters), room=2 * len(letters))
+
+
+def is_normal(word):
+    """Is a word in normal form, without RR and SSS in it? True or False. Asks questions 8 and 10."""
+    letters = _letters(word)
+    return _value(_is_normal(letters, len(letters))) == 1
 
 
 def matrix(word):
     """The matrix (a b; c d) of a word, as (a, b, c, d): of the two signs the one whose first non-zero entry among a, b is positive. Asks questions 8, 10,
     12 and 16."""
+    letters = _letters(word)
     entries = (ctypes.c_int64 * 4)()
-    _value(_call("word_to_matrix", _letters(word), ctypes.byref(entries)))
+    _value(_word_to_matrix(letters, len(letters), ctypes.byref(entries)))
     return tuple(entries)
 
 
@@ -116,57 +131,38 @@ def word(a, b, c, d):
     """The normal form of the matrix (a b; c d) of determinant 1, taken up to sign. Asks questions 5, 6 and 12."""
     # Entries beyond 64 bits are cut down to what fits, which question 5 refuses alike.
     entries = [max(-(2**63), min(2**63 - 1, operator.index(entry))) for entry in (a, b, c, d)]
-    return _written("matrix_to_word", entries, FORM)
+    return _written(_matrix_to_word, *entries, room=FORM)
 
 
 def verdict(generators, target, n=LARGEST_BOUND):
-    """Is the target a product of at most n of the generators? A Member, or NoMember. Asks questions 7 to 13."""
-    if isinstance(generators, str):
-        raise TypeError("generators: a list of words, and not one word")
-    if operator.index(n) < 0:
-        raise ValueError(f"n is negative: {n}")
-    generators = list(generators)
-    letters = _letters("".join(generators))
-    # What does not fit in 16 bits is cut down: question 7 or 8 refuses such a list before it looks at an end, and question 13 such a bound.
-    ends = [min(end, 65535) for end in accumulate(map(len, generators))]
-    n = min(operator.index(n), 65535)
+    """Is the target a product of at most n of the generators? A Member, or NoMember. Asks questions 7 to 13.
 
-    def judge(side):
-        lent = _lent(side, n)
-        return _call("judge", letters, (ctypes.c_uint16 * len(ends))(*ends), _letters(target), n, *lent), lent
-
-    # q is at least 1, so without tables question 15 refuses at the latest. Where an earlier one does, no table has to be made.
-    outcome, lent = judge(0)
-    if outcome.number == TABLES:
-        m = sum(len(reduce(generator)) for generator in generators)
-        t = len(reduce(target))
-        outcome, lent = judge(m + 2 * t + 1)
-    return _judged(outcome, lent)
+    The generators are a list, or anything else that has words in an order. A factor is a generator's number in that order, so a set or a dict is refused.
+    """
+    letters, ends = _list(generators)
+    target = _letters(target)
+    n = operator.index(n)
+    if not 0 <= n <= LARGEST_SHORT:
+        if n < 0:
+            raise ValueError(f"n is negative: {n}")
+        # What does not fit in 16 bits is cut down, which question 13 refuses alike.
+        n = LARGEST_SHORT
+    return _judged(_judge, letters, len(letters), ends.buffer_info()[0], len(ends), target, len(target), n)
 
 
 def answer_card(card):
-    """The verdict that a query card, a bytes object, asks for. Asks questions 1 to 13."""
-    lent = _lent(LARGEST_SIDE, LARGEST_BOUND)
-    return _judged(_call("answer_card", _bytes(card), *lent), lent)
+    """The verdict that a query card asks for: a bytes object, or the bytes of any other object that has them. Asks questions 1 to 13."""
+    card = _bytes(card)
+    return _judged(_answer_card, card, len(card))
 
 
 class _Outcome(ctypes.Structure):
     _fields_ = [("number", ctypes.c_uint8), ("value", ctypes.c_size_t)]
 
 
-# A lent slice is a pointer and a length.
-_BYTES = [ctypes.POINTER(ctypes.c_uint8), ctypes.c_size_t]
-_NUMBERS = [ctypes.POINTER(ctypes.c_uint16), ctypes.c_size_t]
-_LENT = _NUMBERS + _NUMBERS + _BYTES
-
-_ARGUMENTS = {
-    "reduce": _BYTES + _BYTES,
-    "invert": _BYTES + _BYTES,
-    "word_to_matrix": _BYTES + [ctypes.POINTER(ctypes.c_int64 * 4)],
-    "matrix_to_word": [ctypes.c_int64] * 4 + _BYTES,
-    "judge": _BYTES + _NUMBERS + _BYTES + [ctypes.c_uint16] + _LENT,
-    "answer_card": _BYTES + _LENT,
-}
+# A slice that is lent is a pointer and a length. What is only read may be a bytes object; what is written is an array of its own, so no two overlap.
+_READ = [ctypes.c_char_p, ctypes.c_size_t]
+_LENT = [ctypes.c_void_p, ctypes.c_size_t]
 
 
 def _load():
@@ -178,40 +174,75 @@ def _load():
     place = next(filter(os.path.exists, places), None)
     if place is None:
         raise ImportError(f"no {' and no '.join(places)}: run bindings/python/build, or set KERNELHOP_LIB_DIR to the folder that has libkernelhop.so")
-    library = ctypes.CDLL(place)
-    calls = {}
-    for name, arguments in _ARGUMENTS.items():
-        calls[name] = getattr(library, "kernelhop_" + name)
-        calls[name].argtypes = arguments
-        calls[name].restype = _Outcome
-    return calls
+    return ctypes.CDLL(place)
 
 
-_CALLS = _load()
+_LIBRARY = _load()
 
 
-def _call(name, *arguments):
-    """The library's call. An array is lent as a slice: its pointer and its length. Each array is made for one call, so no two overlap."""
-    flat = []
-    for argument in arguments:
-        flat += [argument, len(argument)] if isinstance(argument, ctypes.Array) else [argument]
-    return _CALLS[name](*flat)
+def _call(name, *arguments, result=_Outcome):
+    """A call of the library, with the types that it takes and returns."""
+    try:
+        call = getattr(_LIBRARY, "kernelhop_" + name)
+    except AttributeError:
+        raise ImportError(f"{_LIBRARY._name} has no kernelhop_{name}, so it is of another release than this module: run bindings/python/build") from None
+    call.argtypes, call.restype = arguments, result
+    return call
+
+
+_release = _call("version", result=ctypes.c_uint32)()
+_reduce = _call("reduce", *_READ, *_LENT)
+_invert = _call("invert", *_READ, *_LENT)
+_is_normal = _call("is_normal", *_READ)
+_word_to_matrix = _call("word_to_matrix", *_READ, ctypes.POINTER(ctypes.c_int64 * 4))
+_matrix_to_word = _call("matrix_to_word", *[ctypes.c_int64] * 4, *_LENT)
+_judge = _call("judge", *_READ, *_LENT, *_READ, ctypes.c_uint16, *_LENT * 3)
+_answer_card = _call("answer_card", *_READ, *_LENT * 3)
+
+__version__ = f"{_release // 10000}.{_release // 100 % 100}.{_release % 100}"
 
 
 def _bytes(content):
-    return (ctypes.c_uint8 * len(content)).from_buffer_copy(content)
+    if isinstance(content, bytes):
+        return content
+    try:
+        return memoryview(content).tobytes()
+    except TypeError:
+        raise TypeError(f"a card is bytes, and not {type(content).__name__}") from None
 
 
 def _letters(text):
     if not isinstance(text, str):
         raise TypeError(f"a word is a str, and not {type(text).__name__}")
     # A letter beyond ASCII becomes one byte that is no letter, so that question 10's place counts letters.
-    return _bytes(text.encode("ascii", "replace"))
+    return text.encode("ascii", "replace")
 
 
-def _lent(side, bound):
-    table = ctypes.c_uint16 * (side * side)
-    return table(), table(), (ctypes.c_uint8 * bound)()
+def _in_order(words):
+    """Sequences have their words in the caller's order, and so has an iterator. Sets, dicts and their views have not, nor has any other collection that
+    cannot be indexed."""
+    if isinstance(words, Sequence):
+        return True
+    return not isinstance(words, (Set, Mapping, MappingView)) and (hasattr(words, "__getitem__") or not isinstance(words, Collection))
+
+
+def _list(generators):
+    """The letters of the generators, one behind the other, and their ends."""
+    if not isinstance(generators, (list, tuple)):
+        if isinstance(generators, (str, bytes, bytearray)):
+            raise TypeError("generators: a list of words, and not one word")
+        if not _in_order(generators):
+            raise TypeError(f"generators: a list of words, and not {type(generators).__name__}, whose order is not the caller's")
+    generators = tuple(generators)
+    try:
+        letters = "".join(generators)
+    except TypeError:
+        raise TypeError("generators: a list of words, each of them a str") from None
+    ends = list(accumulate(map(len, generators)))
+    if len(letters) > LARGEST_SHORT:
+        # What does not fit in 16 bits is cut down: question 7 or 8 refuses such a list before it looks at an end.
+        ends = [min(end, LARGEST_SHORT) for end in ends]
+    return letters.encode("ascii", "replace"), array("H", ends)
 
 
 def _value(outcome):
@@ -220,13 +251,41 @@ def _value(outcome):
     return outcome.value
 
 
-def _written(name, inputs, room):
+def _written(call, *inputs, room):
     out = (ctypes.c_uint8 * room)()
-    length = _value(_call(name, *inputs, out))
+    length = _value(call(*inputs, out, room))
     return bytes(out[:length]).decode("ascii")
 
 
-def _judged(outcome, lent):
-    if outcome.number == NONE:
-        return NoMember(outcome.value)
-    return Member(tuple(lent[2][: _value(outcome)]))
+class _Room:
+    """What verdicts are worked out in. A verdict takes tables with anything in them, so nothing is cleared between two; and these are as large as the questions
+    let one ask for, so nothing has to be known of a list before it is judged."""
+
+    def __init__(self):
+        table = ctypes.c_uint16 * (LARGEST_SIDE * LARGEST_SIDE)
+        first, second, self.witness = table(), table(), (ctypes.c_uint8 * LARGEST_BOUND)()
+        self.lent = first, len(first), second, len(second), self.witness, len(self.witness)
+
+
+class _Kept(threading.local):
+    """The room of this thread, once it has asked for a verdict."""
+
+    room = None
+
+
+_KEPT = _Kept()
+
+
+def _judged(call, *inputs):
+    # The room is taken out until the factors are read: a signal's handler may ask for a verdict in between, and makes its own.
+    room = _KEPT.room or _Room()
+    _KEPT.room = None
+    outcome = call(*inputs, *room.lent)
+    number, value = outcome.number, outcome.value
+    factors = tuple(room.witness[:value]) if number == 0 else None
+    _KEPT.room = room
+    if factors is not None:
+        return Member(factors)
+    if number == NONE:
+        return NoMember(value)
+    raise Refused(number, value)

@@ -1,15 +1,29 @@
 """Tests of kernelhop.py: worked values, edges, and what is refused."""
 
+import collections
 import doctest
 import os
 import pickle
 import re
+import subprocess
+import sys
+import tempfile
+import threading
 import unittest
+from array import array
+from unittest import mock
 
 import kernelhop
-from kernelhop import Member, NoMember, Refused, answer_card, invert, matrix, reduce, verdict, word
+from kernelhop import Member, NoMember, Refused, answer_card, invert, is_normal, matrix, reduce, verdict, word
 
-RUST = os.path.join(os.path.dirname(os.path.abspath(__file__)), "..", "rust", "src", "refusal.rs")
+HERE = os.path.dirname(os.path.abspath(__file__))
+RUST = os.path.join(HERE, "..", "rust", "src", "refusal.rs")
+CONTRACTS = os.path.join(HERE, "..", "..", "crates", "kernelhop", "src", "lib.rt")
+
+
+def text_of(path):
+    with open(path, encoding="utf-8") as file:
+        return file.read()
 
 
 class Case(unittest.TestCase):
@@ -31,10 +45,19 @@ class Words(Case):
         self.refused(10, 2, reduce, "RSr")
         self.refused(10, 2, invert, "RS\N{GREEK CAPITAL LETTER OMEGA}R")
 
+    def test_normality(self):
+        for given in ["", "SSRSRSS", "RS" * 2048]:
+            self.assertIs(is_normal(given), True)
+        for given in ["SRRS", "RSSS", "RS" * 2047 + "RR"]:
+            self.assertIs(is_normal(given), False)
+        self.refused(8, 0, is_normal, "RS" * 2048 + "R")
+        self.refused(10, 2, is_normal, "RRx")
+
     def test_types(self):
-        for given in [5, None, ["R"], b"R"]:
-            with self.assertRaisesRegex(TypeError, "a word is a str"):
-                reduce(given)
+        for call in [reduce, invert, is_normal, matrix]:
+            for given in [5, None, ["R"], b"R"]:
+                with self.assertRaisesRegex(TypeError, "a word is a str"):
+                    call(given)
 
 
 class Matrices(Case):
@@ -88,10 +111,105 @@ class Verdicts(Case):
         self.refused(13, 0, verdict, ["R"], "R", 10**30)
 
     def test_misuse(self):
-        with self.assertRaisesRegex(TypeError, "not one word"):
-            verdict("RS", "R", 1)
+        for given in ["RS", b"RS", bytearray(b"RS")]:
+            with self.assertRaisesRegex(TypeError, "not one word"):
+                verdict(given, "R", 1)
+        for given in [["R", 5], [b"R"], [None], [["R"]]]:
+            with self.assertRaisesRegex(TypeError, "each of them a str"):
+                verdict(given, "R", 1)
         with self.assertRaisesRegex(ValueError, "negative"):
             verdict(["R"], "R", -1)
+        for given in [1.0, "1", None]:
+            with self.assertRaises(TypeError):
+                verdict(["R"], "R", given)
+
+    def test_words_without_an_order_of_the_caller(self):
+        class Bag:
+            """A collection that is no set, and has no indices."""
+
+            def __contains__(self, word):
+                return word == "R"
+
+            def __iter__(self):
+                return iter(["R"])
+
+            def __len__(self):
+                return 1
+
+        table = {"R": 1, "S": 2}
+        for given in [{"R", "S"}, frozenset(["R"]), table, table.keys(), table.values(), table.items(), collections.Counter("RS"), set(), Bag()]:
+            with self.assertRaisesRegex(TypeError, f"not {type(given).__name__}, whose order is not the caller's"):
+                verdict(given, "R", 1)
+
+    def test_words_in_an_order(self):
+        class Indexed:
+            """A collection with indices that is not registered as a sequence, as arrays of numbers are."""
+
+            def __contains__(self, word):
+                return word in "SR"
+
+            def __getitem__(self, place):
+                return "SR"[place]
+
+            def __len__(self):
+                return 2
+
+            def __iter__(self):
+                return iter("SR")
+
+        for given in [["S", "R"], ("S", "R"), iter(["S", "R"]), (w for w in "SR"), collections.deque("SR"), collections.UserList("SR"), Indexed()]:
+            self.assertEqual(verdict(given, "R", 1), Member((1,)))
+
+
+class Rooms(Case):
+    """The tables that a thread keeps from one verdict to the next."""
+
+    def long(self):
+        self.assertEqual(verdict(["SR", "R"], "SR" * 40), Member((0,) * 40))
+
+    def test_nothing_is_left(self):
+        self.long()
+        self.assertEqual(verdict(["S"], "R", 7), NoMember(7))
+        self.assertEqual(answer_card(b"\x0a\x01\x00R\x01\x01\x00R"), Member((0,)))
+        self.refused(10, 1, verdict, ["S", "x"], "R", 7)
+        self.long()
+
+    def test_one_room_is_kept(self):
+        self.long()
+        room = kernelhop._KEPT.room
+        self.refused(13, 0, verdict, ["S"], "R", 1001)
+        self.refused(2, 0, answer_card, b"")
+        self.long()
+        self.assertIs(kernelhop._KEPT.room, room)
+
+    def test_threads(self):
+        wrong = []
+
+        def ask(k):
+            for _ in range(50):
+                found = verdict(["SR", "RSS"] if k % 2 else ["RSS", "SR"], "SR" * k, 8)
+                if found != Member(((k + 1) % 2,) * k) or answer_card(bytes([3, k, 0, 1, 0, 82])) != NoMember(k):
+                    wrong.append(k)
+
+        threads = [threading.Thread(target=ask, args=(k,)) for k in range(1, 9)]
+        for thread in threads:
+            thread.start()
+        for thread in threads:
+            thread.join()
+        self.assertEqual(wrong, [])
+
+    def test_a_verdict_in_the_midst_of_another(self):
+        """As a signal's handler asks for one: after the library's call, and before its factors are read."""
+        judge = kernelhop._judge
+
+        def interrupted(*arguments):
+            outcome = judge(*arguments)
+            with mock.patch.object(kernelhop, "_judge", judge):
+                self.assertEqual(verdict(["S", "RR", "SS"], "SS", 2), Member((2,)))
+            return outcome
+
+        with mock.patch.object(kernelhop, "_judge", interrupted):
+            self.long()
 
 
 class Cards(Case):
@@ -107,6 +225,19 @@ class Cards(Case):
         self.refused(3, 15, answer_card, self.CARD[:15])
         self.refused(4, 16, answer_card, self.CARD + b"\x00")
 
+    def test_the_bytes_of_other_objects(self):
+        wide = array("H")
+        wide.frombytes(self.CARD)
+        apart = memoryview(bytes(byte for pair in zip(self.CARD, bytes(16)) for byte in pair))[::2]
+        for given in [bytearray(self.CARD), memoryview(self.CARD), memoryview(self.CARD).cast("I"), wide, apart]:
+            self.assertEqual(answer_card(given), Member((0, 0, 0)))
+        self.refused(1, 0, answer_card, array("H", [0] * 4164))
+
+    def test_types(self):
+        for given in ["0B03", 5, None, list(self.CARD)]:
+            with self.assertRaisesRegex(TypeError, f"a card is bytes, and not {type(given).__name__}"):
+                answer_card(given)
+
 
 class Refusals(unittest.TestCase):
     def test_words(self):
@@ -115,9 +246,29 @@ class Refusals(unittest.TestCase):
         self.assertEqual(str(pickle.loads(pickle.dumps(refused))), str(refused))
 
     def test_same_texts_as_the_rust_package(self):
-        with open(RUST, encoding="utf-8") as source:
-            table = re.search(r"const TEXTS.*?= \[(.*?)\n\];", source.read(), re.DOTALL).group(1)
+        table = re.search(r"const TEXTS.*?= \[(.*?)\n\];", text_of(RUST), re.DOTALL).group(1)
         self.assertEqual(tuple(re.findall(r'"(.*?)"', table)), kernelhop.TEXTS)
+
+
+class Module(unittest.TestCase):
+    def test_the_release_that_the_contract_says(self):
+        self.assertEqual(kernelhop.__version__, ".".join(re.search(r"r ≡ release (\d+) (\d+) (\d+)", text_of(CONTRACTS)).groups()))
+
+    def test_public_names(self):
+        for name in kernelhop.__all__:
+            self.assertIsNotNone(getattr(kernelhop, name).__doc__, name)
+
+    def test_another_library(self):
+        """A library without the calls, and a folder without a library."""
+        with tempfile.TemporaryDirectory() as folder:
+            for make, text in [(False, "run bindings/python/build"), (True, "of another release than this module")]:
+                if make:
+                    subprocess.run(["gcc", "-shared", "-o", os.path.join(folder, "libkernelhop.so"), "-x", "c", os.devnull], check=True)
+                environment = dict(os.environ, KERNELHOP_LIB_DIR=folder, PYTHONPATH=HERE)
+                result = subprocess.run([sys.executable, "-B", "-c", "import kernelhop"], env=environment, capture_output=True, check=False)
+                self.assertEqual(result.returncode, 1)
+                self.assertIn("ImportError", result.stderr.decode())
+                self.assertIn(text, result.stderr.decode())
 
 
 def load_tests(_loader, tests, _pattern):

@@ -1,5 +1,5 @@
-//! The calls on slices that the caller lends, for those who make many calls and keep the tables. Each takes slices of any length and any content: it answers,
-//! or it refuses, and a refusal changes nothing.
+//! The calls on slices that the caller lends, for those who keep the tables themselves. Each takes slices of any length and any content: it answers, or it
+//! refuses, and a refusal changes nothing.
 //!
 //! All that is unsafe is here. The library takes for granted what a Rust slice is: a pointer that is aligned and valid for its length, entries that have been
 //! written, and, of two slices, no overlap where one of them is mutable.
@@ -16,6 +16,8 @@ struct Outcome {
 const NONE: u8 = 255;
 
 extern "C" {
+    fn kernelhop_version() -> u32;
+    fn kernelhop_is_normal(word: *const u8, word_len: usize) -> Outcome;
     fn kernelhop_reduce(word: *const u8, word_len: usize, out: *mut u8, out_len: usize) -> Outcome;
     fn kernelhop_invert(word: *const u8, word_len: usize, out: *mut u8, out_len: usize) -> Outcome;
     fn kernelhop_word_to_matrix(word: *const u8, word_len: usize, out: *mut [i64; 4]) -> Outcome;
@@ -79,6 +81,16 @@ fn judged(outcome: Outcome) -> Result<Judged, Refusal> {
             count: value(outcome)?,
         }),
     }
+}
+
+/// The library's release: 10,000 times its major number, 100 times its minor one, and its patch number.
+pub(crate) fn version() -> u32 {
+    unsafe { kernelhop_version() }
+}
+
+/// Whether a word is in normal form. Asks questions 8 and 10.
+pub(crate) fn is_normal(word: &[u8]) -> Result<bool, Refusal> {
+    Ok(value(unsafe { kernelhop_is_normal(word.as_ptr(), word.len()) })? == 1)
 }
 
 /// Writes the normal form of a word to the front of `out`; the answer is its length. Asks questions 8, 10 and 14: room for as many letters as the word has.

@@ -1,7 +1,10 @@
 //! Bounded products in the modular group, over the proved library of this repository.
 //!
 //! Words are in the letters R and S, where RR and SSS vanish and no other rule holds. Each function takes anything whatever: it answers, or it refuses
-//! by a numbered question.
+//! by a numbered question. `version()` says which release of the library answers.
+//!
+//! Verdicts are worked out in two tables and a witness that each thread makes at its first verdict and keeps until it ends: up to 926,444 bytes a thread. Who
+//! wants to say what memory is used lends it, by the calls of `lent`.
 //!
 //! ```
 //! use kernelhop::{reduce, verdict, Verdict};
@@ -18,10 +21,12 @@
 
 pub mod lent;
 mod refusal;
+mod room;
 
 pub use refusal::Refusal;
 
 use lent::Judged;
+use room::Room;
 
 /// Whether the target is a product of at most n generators.
 #[derive(Clone, Debug, PartialEq, Eq)]
@@ -35,32 +40,35 @@ pub enum Verdict {
 /// The letters that a matrix's normal form may have (question 14).
 const FORM: usize = 80;
 
-/// The largest q that questions 11 and 12 let pass: 320 letters in the generators' normal forms, and 80 in the target's.
-const LARGEST_SIDE: usize = 320 + 2 * 80 + 1;
-
-/// The largest n that question 13 lets pass.
-const LARGEST_BOUND: usize = 1000;
-
-/// Question 15, whether the tables are long enough, is the last one that a verdict asks.
-const TABLES: u8 = 15;
-
-/// What a verdict is worked out in: two tables of `side` times `side` entries, and room for `bound` factors.
-fn room(side: usize, bound: usize) -> (Vec<u16>, Vec<u16>, Vec<u8>) {
-    let table = vec![0; side * side];
-    (table.clone(), table, vec![0; bound])
-}
-
-fn verdict_of(judged: Judged, witness: &[u8]) -> Verdict {
-    match judged {
-        Judged::Member { count } => Verdict::Member {
-            factors: witness[..count].iter().map(|&j| usize::from(j)).collect(),
-        },
-        Judged::None { n } => Verdict::None { n },
-    }
+/// The verdict of a call that is lent this thread's room.
+fn judged(call: impl FnOnce(&mut Room) -> Result<Judged, Refusal>) -> Result<Verdict, Refusal> {
+    Room::lend(|room| {
+        Ok(match call(room)? {
+            Judged::Member { count } => Verdict::Member {
+                factors: room.witness[..count]
+                    .iter()
+                    .copied()
+                    .map(usize::from)
+                    .collect(),
+            },
+            Judged::None { n } => Verdict::None { n },
+        })
+    })
 }
 
 fn text(letters: &[u8]) -> String {
     letters.iter().map(|&letter| char::from(letter)).collect()
+}
+
+/// The release of the library that answers, such as `1.0.0`.
+pub fn version() -> String {
+    let release = lent::version();
+    format!(
+        "{}.{}.{}",
+        release / 10_000,
+        release / 100 % 100,
+        release % 100
+    )
 }
 
 /// The normal form of a word. Asks questions 8 and 10.
@@ -77,6 +85,11 @@ pub fn invert(word: impl AsRef<[u8]>) -> Result<String, Refusal> {
     let mut out = vec![0; 2 * word.len()];
     let length = lent::invert(word, &mut out)?;
     Ok(text(&out[..length]))
+}
+
+/// Whether a word is in normal form, without RR and SSS in it. Asks questions 8 and 10.
+pub fn is_normal(word: impl AsRef<[u8]>) -> Result<bool, Refusal> {
+    lent::is_normal(word.as_ref())
 }
 
 /// The matrix (a b; c d) of a word, as [a, b, c, d]: of the two signs the one whose first non-zero entry among a, b is positive. Asks questions 8, 10, 12
@@ -102,44 +115,26 @@ pub fn verdict(
 ) -> Result<Verdict, Refusal> {
     let target = target.as_ref();
     let mut bytes = Vec::new();
-    let mut ends = Vec::new();
+    let mut ends = Vec::with_capacity(generators.len());
     for generator in generators {
         bytes.extend_from_slice(generator.as_ref());
         // An end that does not fit stands behind more than 4,096 letters: question 7 or 8 refuses before an end is looked at.
         ends.push(u16::try_from(bytes.len()).unwrap_or(u16::MAX));
     }
-    let judge = |side| -> Result<Verdict, Refusal> {
-        let (mut first, mut second, mut witness) = room(side, usize::from(n));
-        let judged = lent::judge(
+    judged(|room| {
+        lent::judge(
             &bytes,
             &ends,
             target,
             n,
-            &mut first,
-            &mut second,
-            &mut witness,
-        )?;
-        Ok(verdict_of(judged, &witness))
-    };
-    // q is at least 1, so without tables question 15 refuses at the latest. Where an earlier one does, no table has to be made.
-    match judge(0) {
-        Err(refusal) if refusal.number() == TABLES => judge(side(generators, target)?),
-        answer => answer,
-    }
-}
-
-/// q = m + 2t + 1, with m the sum of the lengths of the generators' normal forms and t the length of the target's.
-fn side(generators: &[impl AsRef<[u8]>], target: &[u8]) -> Result<usize, Refusal> {
-    let mut m = 0;
-    for generator in generators {
-        m += reduce(generator)?.len();
-    }
-    Ok(m + 2 * reduce(target)?.len() + 1)
+            &mut room.first,
+            &mut room.second,
+            &mut room.witness,
+        )
+    })
 }
 
 /// The verdict that a query card asks for. Asks questions 1 to 13.
 pub fn answer_card(card: &[u8]) -> Result<Verdict, Refusal> {
-    let (mut first, mut second, mut witness) = room(LARGEST_SIDE, LARGEST_BOUND);
-    let judged = lent::answer_card(card, &mut first, &mut second, &mut witness)?;
-    Ok(verdict_of(judged, &witness))
+    judged(|room| lent::answer_card(card, &mut room.first, &mut room.second, &mut room.witness))
 }

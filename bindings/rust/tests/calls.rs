@@ -1,8 +1,13 @@
 //! The package's functions on worked values, edges, and what they refuse.
 
 use kernelhop::{
-    answer_card, invert, lent, matrix_to_word, reduce, verdict, word_to_matrix, Verdict,
+    answer_card, invert, is_normal, lent, matrix_to_word, reduce, verdict, version, word_to_matrix,
+    Verdict,
 };
+use std::{cell::RefCell, sync::mpsc, thread};
+
+/// The library's calls with their contracts, one of which says the release.
+const CONTRACTS: &str = include_str!("../../../crates/kernelhop/src/lib.rt");
 
 fn member(factors: &[usize]) -> Verdict {
     Verdict::Member {
@@ -25,6 +30,17 @@ fn normal_forms() {
     assert_eq!(reduce("").unwrap(), "");
     assert_eq!(invert("SR").unwrap(), "RSS");
     assert_eq!(invert("").unwrap(), "");
+}
+
+#[test]
+fn normality() {
+    assert_eq!(is_normal("SSRSRSS"), Ok(true));
+    assert_eq!(is_normal(""), Ok(true));
+    assert_eq!(is_normal("SRRS"), Ok(false));
+    assert_eq!(is_normal("RSSS"), Ok(false));
+    assert_eq!(is_normal("RS".repeat(2048)), Ok(true));
+    assert_eq!(refused(is_normal("RS".repeat(2048) + "R")), (8, 0));
+    assert_eq!(refused(is_normal("RRx")), (10, 2));
 }
 
 #[test]
@@ -118,6 +134,90 @@ fn cards() {
         answer_card(b"\x03\x02\x00\x01\x00R").unwrap(),
         Verdict::None { n: 2 }
     );
+}
+
+/// A long series in the room that the thread keeps, then a short one, then a refusal, and the first again.
+#[test]
+fn nothing_is_left_from_one_verdict_to_the_next() {
+    let long = || verdict(&["SR", "R"], "SR".repeat(40), 1000).unwrap();
+    assert_eq!(long(), member(&[0; 40]));
+    assert_eq!(verdict(&["S"], "R", 7).unwrap(), Verdict::None { n: 7 });
+    assert_eq!(
+        answer_card(b"\x0a\x01\x00R\x01\x01\x00R").unwrap(),
+        member(&[0])
+    );
+    assert_eq!(refused(verdict(&["S", "x"], "R", 7)), (10, 1));
+    assert_eq!(long(), member(&[0; 40]));
+}
+
+#[test]
+fn several_threads() {
+    thread::scope(|scope| {
+        for k in 1..=8 {
+            scope.spawn(move || {
+                for _ in 0..50 {
+                    let factors = vec![k % 2; k];
+                    let list = [["SR", "RSS"], ["RSS", "SR"]][k % 2];
+                    assert_eq!(verdict(&list, "SR".repeat(k), 8).unwrap(), member(&factors));
+                    assert_eq!(
+                        answer_card(&[3, k as u8, 0, 1, 0, b'R']).unwrap(),
+                        Verdict::None { n: k as u16 }
+                    );
+                }
+            });
+        }
+    });
+}
+
+/// A word that asks for a verdict when it is looked at.
+struct Asking;
+
+impl AsRef<[u8]> for Asking {
+    fn as_ref(&self) -> &[u8] {
+        assert_eq!(verdict(&["S"], "SS", 2).unwrap(), member(&[0, 0]));
+        b"R"
+    }
+}
+
+#[test]
+fn a_verdict_in_the_midst_of_another() {
+    assert_eq!(verdict(&[Asking, Asking], Asking, 5).unwrap(), member(&[0]));
+}
+
+/// Asks for a verdict and sends it when it is dropped.
+struct Last(mpsc::Sender<Verdict>);
+
+impl Drop for Last {
+    fn drop(&mut self) {
+        self.0.send(verdict(&["S"], "SS", 2).unwrap()).unwrap();
+    }
+}
+
+/// Values of a thread are dropped when it ends, the newer ones first or last: the room it kept may be gone by then.
+#[test]
+fn a_verdict_while_a_thread_ends() {
+    thread_local! {
+        static BEFORE: RefCell<Option<Last>> = const { RefCell::new(None) };
+        static AFTER: RefCell<Option<Last>> = const { RefCell::new(None) };
+    }
+    let (sender, receiver) = mpsc::channel();
+    let ending = thread::spawn(move || {
+        BEFORE.set(Some(Last(sender.clone())));
+        verdict(&["S"], "SS", 2).unwrap();
+        AFTER.set(Some(Last(sender)));
+    });
+    ending.join().unwrap();
+    assert_eq!(
+        receiver.iter().collect::<Vec<_>>(),
+        vec![member(&[0, 0]); 2]
+    );
+}
+
+#[test]
+fn the_release_that_the_contract_says() {
+    let (_, behind) = CONTRACTS.split_once("r ≡ release ").unwrap();
+    let numbers: Vec<_> = behind.split_whitespace().take(3).collect();
+    assert_eq!(version(), numbers.join("."));
 }
 
 #[test]

@@ -3,9 +3,12 @@ use mathlib.Core.List.{List, [], _∷_}
 use Prim.Native.Nat.{ℕ}
 use lib.IntN.{ℤ}
 use Rattle.words.specs.Questions.{number, place}
+use Rattle.words.specs.declared.Factors.{Factors}
 use Rattle.words.specs.declared.Refusal.{Refusal}
 use Rattle.words.specs.declared.Written.{Written}
 use Rattle.words.specs.declared.Written.the-variants.{Length, Refused as Written·Refused}
+use Rattle.words.specs.declared.Tested.{Tested}
+use Rattle.words.specs.declared.Tested.the-variants.{Normal, NotNormal, Refused as Tested·Refused}
 use Rattle.matrices.specs.declared.Turned.{Turned}
 use Rattle.matrices.specs.declared.Turned.the-variants.{Into, Refused as Turned·Refused}
 use Rattle.engine.specs.declared.Verdict.{Verdict}
@@ -30,6 +33,12 @@ abbrev pub ofWritten : Written → Outcome
 ofWritten (Length letters) = yes (letters .0)
 ofWritten (Written·Refused refusal) = ofRefusal refusal
 
+-- normal: 1; not normal: 0
+abbrev pub ofTested : Tested → Outcome
+ofTested Normal = yes 1
+ofTested NotNormal = yes 0
+ofTested (Tested·Refused refusal) = ofRefusal refusal
+
 abbrev pub ofTurned : Turned → Outcome
 ofTurned (Into m) = yes 0
 ofTurned (Turned·Refused refusal) = ofRefusal refusal
@@ -39,9 +48,9 @@ abbrev pub entriesOr : Turned → List ℤ → List ℤ
 entriesOr (Into m) before = m .a ∷ m .b ∷ m .c ∷ m .d ∷ []
 entriesOr (Turned·Refused refusal) before = before
 
-abbrev pub ofVerdict : ℕ → Verdict → Outcome
+abbrev pub ofVerdict : Factors → Verdict → Outcome
 ofVerdict n (Member count) = yes (count .0)
-ofVerdict n None = no n
+ofVerdict n None = no (n .0)
 ofVerdict n (Refused refusal) = ofRefusal refusal
 
 abbrev pub ofAnswer : Answer → Outcome

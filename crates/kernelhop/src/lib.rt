@@ -6,22 +6,32 @@ use matrices::Turned;
 use words::Factors;
 ghost use mathlib.Core.Path.{_≡_};
 ghost use Rattle.words.specs.Word.{nf, inverse};
-ghost use Rattle.words.specs.Calls.{Writes};
+ghost use Rattle.words.specs.Calls.{Writes, Tests};
 ghost use Rattle.words.specs.declared.Written.{Written};
+ghost use Rattle.words.specs.declared.Tested.{Tested};
 ghost use Rattle.matrices.specs.Calls.{TurnsWord, TurnsMatrix};
 ghost use Rattle.matrices.specs.declared.Turned.{Turned};
 ghost use Rattle.engine.specs.Calls.{Judges};
 ghost use Rattle.engine.specs.declared.Verdict.{Verdict};
 ghost use Rattle.answers.specs.declared.Answer.{Answer};
 ghost use Rattle.cards.specs.Calls.{AnswersCard};
-ghost use Rattle.kernelhop.specs.Outcome.{ofWritten, ofTurned, entriesOr, ofVerdict, ofAnswer};
+ghost use Rattle.kernelhop.specs.Release.{release};
+ghost use Rattle.kernelhop.specs.Outcome.{ofWritten, ofTested, ofTurned, entriesOr, ofVerdict, ofAnswer};
 
-// An answer: 0, and the length written, the count of a member, or 0 for a matrix. None: 255, and n. A refusal: the question's number, from 1 to
-// 16, and its place.
+// An answer: 0, and the length written, 1 for a normal word and 0 for another, the count of a member, or 0 for a matrix. None: 255, and n. A refusal: the
+// question's number, from 1 to 16, and its place.
 #[repr(C)]
 pub struct Outcome {
     pub number: u8,
     pub value: usize,
+}
+
+// Which release this library is, as one number (`release` of specs/). It has its one home here, in the promise and in the code: whoever else needs it asks.
+#[no_mangle]
+pub extern "C" fn kernelhop_version() -> u32
+    ensures { λ r. ⌜ r ≡ release 1 0 0 ⌝ }
+{
+    10_000
 }
 
 // The same as words::reduce.
@@ -38,6 +48,14 @@ pub extern "C" fn kernelhop_invert(word: &[u8], out: &mut [u8]) -> Outcome
     ensures { λ r. ⌜ ((w : Written) × Writes (λ x. nf (inverse x)) 2 (now (word .entry)) (now (out .entry)) w (now (out .exit)) × (r ≡ ofWritten w)) ⌝ }
 {
     telling::written(words::invert(word, out))
+}
+
+// The same as words::is_normal.
+#[no_mangle]
+pub extern "C" fn kernelhop_is_normal(word: &[u8]) -> Outcome
+    ensures { λ r. ⌜ ((t : Tested) × Tests (now (word .entry)) t × (r ≡ ofTested t)) ⌝ }
+{
+    telling::tested(words::is_normal(word))
 }
 
 // The same as matrices::word_to_matrix: a, b, c and d go into `out`, which a refusal leaves as it was.
@@ -91,10 +109,10 @@ pub extern "C" fn kernelhop_judge(
         × Judges (now (bytes .entry)) (now (ends .entry)) (now (target .entry)) n v
         (record { first = now (first .entry); second = now (second .entry); witness = now (witness .entry) })
         (record { first = now (first .exit); second = now (second .exit); witness = now (witness .exit) })
-        × (r ≡ ofVerdict n v)) ⌝ }
+        × (r ≡ ofVerdict (record { 0 = n }) v)) ⌝ }
 {
     telling::verdict(
-        n,
+        Factors(n),
         engine::judge(bytes, ends, target, Factors(n), first, second, witness),
     )
 }

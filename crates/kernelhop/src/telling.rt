@@ -2,10 +2,12 @@
 use crate::Outcome;
 use answers::Answer;
 use engine::Verdict;
+use words::Factors;
 use words::Refusal;
+use words::Tested;
 use words::Written;
 ghost use mathlib.Core.Path.{_≡_};
-ghost use Rattle.kernelhop.specs.Outcome.{ofRefusal, ofWritten, ofVerdict, ofAnswer};
+ghost use Rattle.kernelhop.specs.Outcome.{ofRefusal, ofWritten, ofTested, ofVerdict, ofAnswer};
 
 // The number that stands for none: no question has it.
 const NONE: u8 = 255;
@@ -31,7 +33,23 @@ pub(crate) fn written(answer: Written) -> Outcome
     }
 }
 
-pub(crate) fn verdict(n: u16, answer: Verdict) -> Outcome
+pub(crate) fn tested(answer: Tested) -> Outcome
+    ensures { λ r. ⌜ r ≡ ofTested answer ⌝ }
+{
+    match answer {
+        Tested::Normal => Outcome {
+            number: 0,
+            value: 1,
+        },
+        Tested::NotNormal => Outcome {
+            number: 0,
+            value: 0,
+        },
+        Tested::Refused(why) => refusal(why),
+    }
+}
+
+pub(crate) fn verdict(n: Factors, answer: Verdict) -> Outcome
     ensures { λ r. ⌜ r ≡ ofVerdict n answer ⌝ }
 {
     match answer {
@@ -41,7 +59,7 @@ pub(crate) fn verdict(n: u16, answer: Verdict) -> Outcome
         },
         Verdict::None => Outcome {
             number: NONE,
-            value: n as usize,
+            value: n.0 as usize,
         },
         Verdict::Refused(why) => refusal(why),
     }

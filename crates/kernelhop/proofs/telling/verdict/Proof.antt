@@ -13,6 +13,9 @@ cast-t6 c = search needs
 enum-told : tie.Need-enum-told
 enum-told c = search needs
 
+cast-t7 : tie.Need-cast-t7
+cast-t7 c = search needs
+
 enum-known-answer-2 : tie.Need-enum-known-answer-2
 enum-known-answer-2 c = search needs
 
@@ -23,7 +26,7 @@ returns : tie.Need-returns
 returns c = rw (c .before .before .answer .given .1) refl
 
 returns-2 : tie.Need-returns-2
-returns-2 c = rw (c .enum-told .given .1) refl
+returns-2 c = rw (c .before .enum-told .given .1) refl
 
 returns-3 : tie.Need-returns-3
 returns-3 c = rw (c .before .before .answer2 .given .1) (c .refusal .ensures)
@@ -35,6 +38,7 @@ verdict-spec =
     enum-known-answer
     cast-t6
     enum-told
+    cast-t7
     enum-known-answer-2
     refusal-requires
     returns
