@@ -1,13 +1,16 @@
--- There is one full table: each entry is the least number that the rules make, or n + 1. Assumes nothing.
-use mathlib.Core.Path.{_≡_, sym, _∙_}
+-- There is one full table: each entry is the least number that the rules make, or n + 1. So what `fill` promises leaves no choice. Assumes nothing.
+use mathlib.Core.Bool.{Bool, true, false}
+use mathlib.Core.Path.{_≡_, refl, sym, _∙_}
 use mathlib.Core.List.{List}
 use Prim.Native.Nat.{ℕ, _*_, _≤_, _<_}
 use native.Mathlib.Decide.{decLt}
 use native.Mathlib.Omega.{arith}
 use lib.ListN.{List·getD-eq-default}
 use lib.Seq.{ext-getD}
+use Rattle.trees.proofs.Remaining.{same-parts}
 use Rattle.levels.specs.Levels.{entry}
 use Rattle.tables.specs.Levelling.{Made, whole, one, two, Full}
+use Rattle.tables.specs.Filling.{Fills}
 
 module _ {w : ℕ} {letters rests wholes : List ℕ} {n : ℕ} where
   made-least : {t : List ℕ} {c v : ℕ} → Full w letters rests wholes n t → Made w letters rests wholes c v → v ≤ n → entry t c ≤ v
@@ -34,3 +37,13 @@ module _ {w : ℕ} {letters rests wholes : List ℕ} {n : ℕ} where
       (λ p inside.
       let within : p < w * w = omega (arith, full .counts .long) in
       omega (arith, no-higher full full′ p within, no-higher full′ full p within))
+
+-- Two outcomes that meet the contract are one: the answer, and the whole table.
+pub fills-unique : (count : ℕ) (letters rests childrenR childrenS wholes : List ℕ) (n : ℕ) (before after after′ : List ℕ) (r r′ : Bool)
+    → Fills count letters rests childrenR childrenS wholes n before r after → Fills count letters rests childrenR childrenS wholes n before r′ after′
+    → (r ≡ r′) × (after ≡ after′)
+fills-unique count letters rests childrenR childrenS wholes n before after after′ true true f f′ =
+    (refl, same-parts (count * count) after after′ (full-unique (f .1 .full) (f′ .1 .full)) (f .1 .kept ∙ sym (f′ .1 .kept)))
+fills-unique count letters rests childrenR childrenS wholes n before after after′ true false f f′ = absurd (f′ .0 (f .0))
+fills-unique count letters rests childrenR childrenS wholes n before after after′ false true f f′ = absurd (f .0 (f′ .0))
+fills-unique count letters rests childrenR childrenS wholes n before after after′ false false f f′ = (refl, f .1 ∙ sym (f′ .1))

@@ -1,11 +1,12 @@
 -- What stands behind the nodes remains: at each step, and so over many. Assumes nothing.
 use mathlib.Core.Path.{_≡_, refl, sym, ap, _∙_}
-use mathlib.Core.List.{List}
+use mathlib.Core.List.{List, _++_}
 use Prim.Native.Nat.{ℕ, _+_, _-_, _≤_, _<_}
 use native.Mathlib.Nat.{le-refl}
 use native.Mathlib.Omega.{arith}
-use lib.ListN.{drop, set}
-use lib.Seq.{drop-drop, drop-set-lt}
+use lib.ListN.{length, take, drop, set, take-append-drop}
+use lib.Seq.{length-take-le, drop-drop, drop-set-lt, getD-take, ext-getD}
+use Rattle.trees.specs.Tree.{at}
 use Rattle.trees.specs.Growing.{Tables, tables, Remains}
 use Rattle.trees.proofs.Behind.{at-below}
 
@@ -14,6 +15,19 @@ pub drop-later : (j k : ℕ) (a b : List ℕ) → j ≤ k → drop j a ≡ drop 
 drop-later j k a b h e =
     let sum : j + (k - j) ≡ k = omega arith in
     ap (λ (i : ℕ). drop i a) (sym sum) ∙ sym (drop-drop (k - j) j a) ∙ ap (drop (k - j)) e ∙ drop-drop (k - j) j b ∙ ap (λ (i : ℕ). drop i b) sum
+
+-- lists that are alike up to a place and behind it are the same
+pub same-parts : (k : ℕ) (a b : List ℕ) → take k a ≡ take k b → drop k a ≡ drop k b → a ≡ b
+same-parts k a b front behind =
+    sym (take-append-drop k a) ∙ ap (λ (l : List ℕ). l ++ drop k a) front ∙ ap (λ (l : List ℕ). take k b ++ l) behind ∙ take-append-drop k b
+
+pub same-entries : (k : ℕ) (a b : List ℕ) → k ≤ length a → k ≤ length b → ((p : ℕ) → p < k → at a p ≡ at b p) → drop k a ≡ drop k b → a ≡ b
+same-entries k a b within within′ front =
+    same-parts k a b
+    (ext-getD 0 _ _ (length-take-le k a within ∙ sym (length-take-le k b within′))
+    (λ p inside.
+    let below : p < k = omega (arith, length-take-le k a within) in
+    getD-take k a p 0 below ∙ front p below ∙ sym (getD-take k b p 0 below)))
 
 pub remains-same : (count : ℕ) (t : Tables) → Remains count t t
 remains-same count t = record { letters = refl; rests = refl; children = refl; others = refl; root-letter = refl }

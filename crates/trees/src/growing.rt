@@ -1,6 +1,6 @@
 // A word is read backwards into the tree: from its last letter to its first, each time from a node to its child by the letter read, which
 // is made where it is missing. 0 stands for no child: node 0, the empty word, is nobody's child.
-use crate::fitting::entry;
+use crate::entries::entry;
 ghost use mathlib.Core.Path.{_≡_};
 ghost use mathlib.Core.List.{_∷_};
 ghost use Prim.Native.Nat.{_+_, _-_, _≤_, _<_};

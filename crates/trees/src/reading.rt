@@ -1,4 +1,5 @@
 // The generators of a list are read into the tree, one after the other.
+use crate::entries::entry;
 use crate::fitting;
 use crate::growing;
 ghost use mathlib.Core.Path.{_≡_};
@@ -42,7 +43,7 @@ fn read_generator(
         (tables (now (letters .exit)) (now (rests .exit)) (now («children_r» .exit)) (now («children_s» .exit))) ⌝ }
 {
     let from = fitting::end_before(ends, i);
-    let end = fitting::entry(ends, i);
+    let end = entry(ends, i);
     let place = growing::read_backwards(
         bytes,
         from,

@@ -21,7 +21,7 @@ read-backwards-requires c κs =
     let f = start .pre .1 .0 in
     let t = start .pre .1 .1 in
     let from = read .before .end-before .ensures in
-    let end = read .entry .ensures in (
+    let end = read .entry .ensures .0 in (
       (generator-rises bytes ends f h t _ _ from end, generator-within bytes ends f h t _ _ from end),
       (generator-room bytes ends f h t _ _ from end, (t .words, t .counted, t .grown)),
     )
@@ -35,7 +35,7 @@ cast-wholes c =
     let s = called .read-backwards .ensures in
     let tree = s .grew (t .words) (t .counted) (t .grown) in
     let from = read .before .end-before .ensures in
-    let room = generator-room (start .args .bytes .now) (start .args .ends .now) (start .pre .1 .0) (start .pre .0) t _ _ from (read .entry .ensures) in
+    let room = generator-room (start .args .bytes .now) (start .args .ends .now) (start .pre .1 .0) (start .pre .0) t _ _ from (read .entry .ensures .0) in
     omega (arith, s .few, tree .inside, tree .counted, room .few)
 
 mul-wholes : tie.Need-mul-wholes
@@ -74,7 +74,7 @@ returns c =
           _
           _
           (read .before .end-before .ensures)
-          (read .entry .ensures)
+          (read .entry .ensures .0)
           grows,
       (grows .no-fewer, grows .remains),
     )
