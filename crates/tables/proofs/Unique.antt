@@ -12,8 +12,8 @@ use Rattle.levels.specs.Levels.{entry}
 use Rattle.tables.specs.Levelling.{Made, whole, one, two, Full}
 use Rattle.tables.specs.Filling.{Fills}
 
-module _ {w : ℕ} {letters rests wholes : List ℕ} {n : ℕ} where
-  made-least : {t : List ℕ} {c v : ℕ} → Full w letters rests wholes n t → Made w letters rests wholes c v → v ≤ n → entry t c ≤ v
+module _ {count : ℕ} {letters rests wholes : List ℕ} {n : ℕ} where
+  made-least : {t : List ℕ} {c v : ℕ} → Full count letters rests wholes n t → Made count letters rests wholes c v → v ≤ n → entry t c ≤ v
   made-least full (whole j inside) small = full .starts j inside
   made-least {t} full (one {p} {q} {c} rule past made) small =
       let none : entry t q ≡ 0 = List·getD-eq-default t 0 {n = q} (omega (arith, full .counts .long)) in
@@ -24,18 +24,18 @@ module _ {w : ℕ} {letters rests wholes : List ℕ} {n : ℕ} where
       let low′ = made-least full made′ (omega arith) in
       omega (arith, full .closed p q c rule (omega arith))
 
-  no-higher : {t t′ : List ℕ} → Full w letters rests wholes n t → Full w letters rests wholes n t′ → (p : ℕ) → p < w * w → entry t p ≤ entry t′ p
+  no-higher : {t t′ : List ℕ} → Full count letters rests wholes n t → Full count letters rests wholes n t′ → (p : ℕ) → p < count * count → entry t p ≤ entry t′ p
   no-higher {t} {t′} full full′ p inside =
       elim (decLt n (entry t′ p)) [
         | yes above ↦ omega (arith, full .counts .high p inside)
         | no within ↦ made-least full (full′ .made p (omega (arith, full′ .counts .long)) (omega arith)) (omega arith)
       ]
 
-  pub full-unique : {t t′ : List ℕ} → Full w letters rests wholes n t → Full w letters rests wholes n t′ → t ≡ t′
+  pub full-unique : {t t′ : List ℕ} → Full count letters rests wholes n t → Full count letters rests wholes n t′ → t ≡ t′
   full-unique {t} {t′} full full′ =
       ext-getD 0 t t′ (full .counts .long ∙ sym (full′ .counts .long))
       (λ p inside.
-      let within : p < w * w = omega (arith, full .counts .long) in
+      let within : p < count * count = omega (arith, full .counts .long) in
       omega (arith, no-higher full full′ p within, no-higher full′ full p within))
 
 -- Two outcomes that meet the contract are one: the answer, and the whole table.

@@ -7,7 +7,7 @@ use Rattle.words.specs.Word.{Letter, R, S, Word}
 use Rattle.words.specs.Bytes.{letter}
 use Rattle.products.specs.Product.{generators, generator}
 use Rattle.products.specs.State.{State}
-use Rattle.trees.specs.Tree.{at, wordAt, Child}
+use Rattle.trees.specs.Tree.{at, mostOfEntry, wordAt, Child}
 use Rattle.trees.specs.Numbering.{withAll, numbered}
 use Rattle.trees.specs.Ends.{endBefore}
 
@@ -48,7 +48,7 @@ SomeGrown a b count t = (words : List Word) × (length words ≡ count) × Grown
 
 -- there is room for n nodes, and their numbers fit
 pub record Room (n : ℕ) (t : Tables) : Type 0 where
-  pub few : n ≤ 65535
+  pub few : n ≤ mostOfEntry
   pub in-letters : n ≤ length (t .letters)
   pub in-rests : n ≤ length (t .rests)
   pub in-children : n ≤ length (t .children)

@@ -2,11 +2,14 @@
 use words::widening::wide;
 ghost use mathlib.Core.Path.{_≡_};
 ghost use Prim.Native.Nat.{_≤_, min};
-ghost use Rattle.trees.specs.Tree.{at};
+ghost use Rattle.trees.specs.Tree.{at, mostOfEntry};
+
+// The most that an entry is.
+pub const MOST: usize = u16::MAX as usize;
 
 // The number at a place; 0 where the slice has no such place.
 pub fn entry(s: &[u16], p: usize) -> usize
-    ensures { λ r. ⌜ (r ≡ at (now (s .entry)) p) × (r ≤ 65535) ⌝ }
+    ensures { λ r. ⌜ (r ≡ at (now (s .entry)) p) × (r ≤ mostOfEntry) ⌝ }
 {
     if p < s.len() {
         return wide(s[p]);

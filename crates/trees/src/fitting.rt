@@ -1,4 +1,5 @@
 // Whether the inputs fit: a linear test, total for slices of any length and content.
+use crate::entries;
 use crate::entries::entry;
 ghost use mathlib.Core.Path.{_≡_};
 ghost use Rattle.words.specs.Telling.{Tells};
@@ -56,7 +57,7 @@ pub(crate) fn fits(
         (Fits (now (bytes .entry)) (now (ends .entry)) (now (letters .entry)) (now (rests .entry))
         (now («children_r» .entry)) (now («children_s» .entry)) (now (wholes .entry))) ⌝ }
 {
-    if 65535 <= bytes.len() {
+    if entries::MOST <= bytes.len() {
         return false;
     }
     if letters.len() <= bytes.len() {

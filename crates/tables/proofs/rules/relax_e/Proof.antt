@@ -36,7 +36,7 @@ returns-2 c =
     let at-child = at-tail .before .before .before in
     let start = at-child .before .before .before .before .before in
     let a = start .args in
-    joined {Y = Triples (a .width) (a .letters .now) (a .rests .now)} (child-front (start .pre .1) (at-child .child .ensures)) (at-tail .tail .ensures)
+    joined {Y = Triples (a .count) (a .letters .now) (a .rests .now)} (child-front (start .pre .1) (at-child .child .ensures)) (at-tail .tail .ensures)
     (at-relax-triples .relax-triples .ensures)
 
 pub relax-e-spec : {M : Type 1} → statement M

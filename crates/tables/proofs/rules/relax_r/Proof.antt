@@ -54,13 +54,13 @@ returns-2 c =
     let at-tail = at-relax-at .before in
     let at-child = at-tail .before .before .before in
     let start = at-child .before .before .before .before .before in
-    let w = start .args .width in
+    let count = start .args .count in
     let linked = start .pre .1 in
     let front = child-front linked (at-child .child .ensures) in
     let front-y = child-front linked (at-child2 .child2 .ensures) in
     relaxed-then
-    (joined {Y = One w} front (at-tail .tail .ensures) (at-relax-at .relax-at .ensures))
-    (joined {Y = One w} front front-y (at-relax-at2 .relax-at2 .ensures))
+    (joined {Y = One count} front (at-tail .tail .ensures) (at-relax-at .relax-at .ensures))
+    (joined {Y = One count} front front-y (at-relax-at2 .relax-at2 .ensures))
 
 pub relax-r-spec : {M : Type 1} → statement M
 relax-r-spec =

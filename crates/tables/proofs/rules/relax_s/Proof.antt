@@ -77,20 +77,20 @@ returns-2 c =
     let at-tail = at-child2 .before .before in
     let at-child = at-tail .before .before in
     let start = at-child .before .before .before .before .before in
-    let w = start .args .width in
+    let count = start .args .count in
     let letters = start .args .letters .now in
     let rests = start .args .rests .now in
     let linked = start .pre .1 in
     let front = child-front linked (at-child .child .ensures) in
     let front-twice =
-    finds-through {Q = λ m z. Front w letters rests 83 z m} (λ z fronts. front-node (linked .followed) fronts) front
+    finds-through {Q = λ m z. Front count letters rests 83 z m} (λ z fronts. front-node (linked .followed) fronts) front
     (child-front linked (at-child2 .child2 .ensures)) in
     let rest = at-tail .tail .ensures in
-    let rest-twice = finds-through {Q = λ m z. Front w letters rests 83 m z} (λ z fronts. fronts .1) rest (at-tail2 .tail2 .ensures) in
+    let rest-twice = finds-through {Q = λ m z. Front count letters rests 83 m z} (λ z fronts. fronts .1) rest (at-tail2 .tail2 .ensures) in
     let front-y = child-front linked (at-child3 .child3 .ensures) in
     relaxed-then
-    (relaxed-then (joined {Y = One w} front-twice rest (at-relax-at .relax-at .ensures)) (joined {Y = One w} front rest-twice (at-relax-at2 .relax-at2 .ensures)))
-    (joined {Y = One w} front front-y (at-relax-at3 .relax-at3 .ensures))
+    (relaxed-then (joined {Y = One count} front-twice rest (at-relax-at .relax-at .ensures)) (joined {Y = One count} front rest-twice (at-relax-at2 .relax-at2 .ensures)))
+    (joined {Y = One count} front front-y (at-relax-at3 .relax-at3 .ensures))
 
 pub relax-s-spec : {M : Type 1} → statement M
 relax-s-spec =
