@@ -8,6 +8,16 @@ use Rattle.tables.proofs.Steps.{ready-relaxed}
 use Rattle.tables.proofs.rules.relax_s.Statement.{statement}
 use Rattle.tables.proofs.rules.relax_s.Tie as tie
 
+-- Earlier states, each from a later one.
+abbrev begun : tie.After-child → tie.Start
+begun c = c .before .before .before .before .before
+
+abbrev found : tie.After-relax-at → tie.After-child
+found c = c .before .before .before .before .before
+
+abbrev first : tie.After-relax-at2 → tie.After-relax-at
+first c = c .before .before .before .before .before
+
 child-requires : tie.Need-child-requires
 child-requires c κs =
     let start = c .before .before .before .before in
@@ -16,53 +26,43 @@ child-requires c κs =
 returns : tie.Need-returns
 returns c =
     let at-child = c .before in
-    let start = at-child .before .before .before .before .before in
+    let start = begun at-child in
     let none = not-found (child-front (start .pre .1) (at-child .child .ensures)) (c .if1 .taken) in
     relaxed-then (relaxed-then (none-joined (λ p inside through. none (through .0) (through .1) (through .2))) (none-joined none)) (none-joined none)
 
 tail-requires : tie.Need-tail-requires
 tail-requires c κs =
-    let start = c .before .before .before .before .before .before in
-    let linked = start .pre .1 in (linked .followed .room-letters, linked .followed .room-rests)
+    let linked = begun (c .before) .pre .1 in (linked .followed .room-letters, linked .followed .room-rests)
 
 child-requires-2 : tie.Need-child-requires-2
-child-requires-2 c κs =
-    let start = c .before .before .before .before .before .before .before .before in
-    start .pre .1 .followed .room-children
+child-requires-2 c κs = begun (c .before .before .before) .pre .1 .followed .room-children
 
 relax-at-requires : tie.Need-relax-at-requires
-relax-at-requires c κs =
-    let start = c .before .before .before .before .before .before .before .before .before in
-    start .pre .0
+relax-at-requires c κs = begun (c .before .before .before .before) .pre .0
 
 tail-requires-2 : tie.Need-tail-requires-2
 tail-requires-2 c κs =
-    let start = c .before .before .before .before .before .before .before .before .before .before .before .before .before in
-    let linked = start .pre .1 in (linked .followed .room-letters, linked .followed .room-rests)
+    let linked = begun (found (c .before .before .before)) .pre .1 in (linked .followed .room-letters, linked .followed .room-rests)
 
 relax-at-requires-2 : tie.Need-relax-at-requires-2
 relax-at-requires-2 c κs =
     let at-relax-at = c .before .before .before .before in
-    let start = at-relax-at .before .before .before .before .before .before .before .before .before .before in
-    ready-relaxed (start .pre .0) (at-relax-at .relax-at .ensures)
+    ready-relaxed (begun (found at-relax-at) .pre .0) (at-relax-at .relax-at .ensures)
 
 child-requires-3 : tie.Need-child-requires-3
-child-requires-3 c κs =
-    let start = c .before .before .before .before .before .before .before .before .before .before .before .before .before .before .before .before .before .before in
-    start .pre .1 .followed .room-children
+child-requires-3 c κs = begun (found (first (c .before .before .before))) .pre .1 .followed .room-children
 
 relax-at-requires-3 : tie.Need-relax-at-requires-3
 relax-at-requires-3 c κs =
     let at-relax-at2 = c .before .before .before .before in
-    let at-relax-at = at-relax-at2 .before .before .before .before .before in
-    let start = at-relax-at .before .before .before .before .before .before .before .before .before .before in
-    ready-relaxed (ready-relaxed (start .pre .0) (at-relax-at .relax-at .ensures)) (at-relax-at2 .relax-at2 .ensures)
+    let at-relax-at = first at-relax-at2 in
+    ready-relaxed (ready-relaxed (begun (found at-relax-at) .pre .0) (at-relax-at .relax-at .ensures)) (at-relax-at2 .relax-at2 .ensures)
 
 same-length : tie.Need-same-length
 same-length c =
     let at-relax-at3 = c .before .before in
     let at-relax-at2 = at-relax-at3 .before .before .before .before .before in
-    let at-relax-at = at-relax-at2 .before .before .before .before .before in
+    let at-relax-at = first at-relax-at2 in
     lowers-length (at-relax-at3 .relax-at3 .ensures .lowers) ∙ lowers-length (at-relax-at2 .relax-at2 .ensures .lowers)
     ∙ lowers-length (at-relax-at .relax-at .ensures .lowers)
 
@@ -76,7 +76,7 @@ returns-2 c =
     let at-child2 = at-relax-at .before in
     let at-tail = at-child2 .before .before in
     let at-child = at-tail .before .before in
-    let start = at-child .before .before .before .before .before in
+    let start = begun at-child in
     let count = start .args .count in
     let letters = start .args .letters .now in
     let rests = start .args .rests .now in

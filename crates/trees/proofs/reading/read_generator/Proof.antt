@@ -5,6 +5,13 @@ use borrow.Author.Needs.{needs}
 use Rattle.trees.proofs.reading.read_generator.Statement.{statement}
 use Rattle.trees.proofs.reading.read_generator.Tie as tie
 
+-- Earlier states, each from a later one.
+abbrev begun : tie.After-entry → tie.Start
+begun c = c .before .before .before .before .before .before .before .before .before
+
+abbrev ends-read : tie.After-read-backwards → tie.After-entry
+ends-read c = c .before .before .before .before .before
+
 end-before-requires : tie.Need-end-before-requires
 end-before-requires c κs = search needs
 
@@ -14,7 +21,7 @@ entry-requires c κs = search needs
 read-backwards-requires : tie.Need-read-backwards-requires
 read-backwards-requires c κs =
     let read = c .before .before .before .before in
-    let start = read .before .before .before .before .before .before .before .before .before in
+    let start = begun read in
     let bytes = start .args .bytes .now in
     let ends = start .args .ends .now in
     let h = start .pre .0 in
@@ -29,8 +36,8 @@ read-backwards-requires c κs =
 cast-wholes : tie.Need-cast-wholes
 cast-wholes c =
     let called = c .before .before .before .before .before .before .before .before .before in
-    let read = called .before .before .before .before .before in
-    let start = read .before .before .before .before .before .before .before .before .before in
+    let read = ends-read called in
+    let start = begun read in
     let t = start .pre .1 .1 in
     let s = called .read-backwards .ensures in
     let tree = s .grew (t .words) (t .counted) (t .grown) in
@@ -62,8 +69,8 @@ same-length-5 c = search needs
 returns : tie.Need-returns
 returns c =
     let called = c .before .before .before .before .before .before .before .before .before in
-    let read = called .before .before .before .before .before in
-    let start = read .before .before .before .before .before .before .before .before .before in
+    let read = ends-read called in
+    let start = begun read in
     let grows = called .read-backwards .ensures in (
       read-more
           (start .args .bytes .now)
