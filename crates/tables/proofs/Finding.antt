@@ -6,12 +6,12 @@ use native.Mathlib.Omega.{arith}
 use Rattle.trees.specs.Tree.{at}
 use Rattle.levels.specs.Levels.{Uses, Relaxed}
 use Rattle.levels.proofs.Relaxing.{relaxed-none, relaxed-same}
-use Rattle.tables.specs.Nodes.{Finds, Noted, Begins, Front, Followed, Children}
+use Rattle.tables.specs.Nodes.{Finds, Noted, Begins, Front, Followed, LinkedBy}
 use Rattle.tables.specs.Relaxing.{Inside, Joins, Through}
 
 module _ {count : ℕ} {letters rests : List ℕ} where
   -- where the children agree with the letters and rests, the child that is noted is the node with the letter in front
-  pub child-front : {letter p r : ℕ} {children : List ℕ} → Children count letters rests letter children
+  pub child-front : {letter p r : ℕ} {children : List ℕ} → LinkedBy count letters rests letter children
       → Finds count (Noted children count p) r → Finds count (λ a. Front count letters rests letter a p) r
   child-front {letter} {p} {r} {children} linked finds =
       record {

@@ -69,11 +69,11 @@ module _ (count : ℕ) (letters rests : List ℕ) where
   Front letter a p = (0 < a) × (a < count) × (at letters a ≡ letter) × (at rests a ≡ p)
 
   -- the children by one letter: they can be followed, and agree with the letters and rests
-  pub record Children (letter : ℕ) (children : List ℕ) : Type 0 where
+  pub record LinkedBy (letter : ℕ) (children : List ℕ) : Type 0 where
     pub followed : Followed count letters rests children
     pub agree : Agree letters rests letter children count
 
   -- The children by R and by S. Every tree has this.
   pub record Linked (childrenR childrenS : List ℕ) : Type 0 where
-    pub r : Children 82 childrenR
-    pub s : Children 83 childrenS
+    pub r : LinkedBy 82 childrenR
+    pub s : LinkedBy 83 childrenS

@@ -13,7 +13,7 @@ ghost use lib.ListN.{length};
 ghost use Rattle.levels.specs.Levels.{Relaxed, Using};
 ghost use Rattle.levels.specs.Passes.{Upto};
 ghost use Rattle.tables.specs.Rules.{place, Rule};
-ghost use Rattle.tables.specs.Nodes.{RestsEarlier, Children, Linked};
+ghost use Rattle.tables.specs.Nodes.{RestsEarlier, LinkedBy, Linked};
 ghost use Rattle.tables.specs.Relaxing.{
   Ready,
   Inside,
@@ -98,7 +98,7 @@ fn relax_r(
     k: Factors,
 )
     requires { ⌜ Ready count (k .0) (now table) ⌝ }
-    requires { ⌜ Children count (now letters) (now rests) 82 (now «children_r») ⌝ }
+    requires { ⌜ LinkedBy count (now letters) (now rests) 82 (now «children_r») ⌝ }
     ensures { λ _. ⌜ Relaxed (k .0) (UsesR count (now (letters .entry)) (now (rests .entry)) x y) (now (table .entry)) (now (table .exit)) ⌝ }
 {
     let a = child(children_r, count, x);
@@ -121,7 +121,7 @@ fn relax_s(
     k: Factors,
 )
     requires { ⌜ Ready count (k .0) (now table) ⌝ }
-    requires { ⌜ Children count (now letters) (now rests) 83 (now «children_s») ⌝ }
+    requires { ⌜ LinkedBy count (now letters) (now rests) 83 (now «children_s») ⌝ }
     ensures { λ _. ⌜ Relaxed (k .0) (UsesS count (now (letters .entry)) (now (rests .entry)) x y) (now (table .entry)) (now (table .exit)) ⌝ }
 {
     let a = child(children_s, count, x);
@@ -203,7 +203,7 @@ fn relax_e(
     k: Factors,
 )
     requires { ⌜ Ready count (k .0) (now table) ⌝ }
-    requires { ⌜ Children count (now letters) (now rests) 83 (now «children_s») ⌝ }
+    requires { ⌜ LinkedBy count (now letters) (now rests) 83 (now «children_s») ⌝ }
     ensures { λ _. ⌜ Relaxed (k .0) (UsesE count (now (letters .entry)) (now (rests .entry)) x y) (now (table .entry)) (now (table .exit)) ⌝ }
 {
     let a = child(children_s, count, x);

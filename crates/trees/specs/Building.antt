@@ -6,7 +6,7 @@ use lib.ListN.{length}
 use Rattle.products.specs.Product.{generators}
 use Rattle.trees.specs.Tree.{at, mostOfEntry, Tree}
 use Rattle.trees.specs.Numbering.{numbered}
-use Rattle.trees.specs.Growing.{tables, Remains}
+use Rattle.trees.specs.Growing.{nodeSlices, Remains}
 use Rattle.trees.specs.declared.Built.{Built}
 use Rattle.trees.specs.declared.Built.the-variants.{Nodes, Unfit}
 
@@ -40,8 +40,8 @@ pub record BuildsTree (bytes ends : List ℕ) (before after : Slices) (count : �
   pub counted : length (numbered (generators bytes ends)) ≡ count
   pub few : count ≤ suc (length bytes)
   pub remains :
-      Remains count (tables (before .letters) (before .rests) (before .childrenR) (before .childrenS))
-      (tables (after .letters) (after .rests) (after .childrenR) (after .childrenS))
+      Remains count (nodeSlices (before .letters) (before .rests) (before .childrenR) (before .childrenS))
+      (nodeSlices (after .letters) (after .rests) (after .childrenR) (after .childrenS))
   pub root-rest : at (after .rests) 0 ≡ 0
 
 -- Where the inputs fit the tree is built, and the answer is how many nodes it has; else nothing changes.

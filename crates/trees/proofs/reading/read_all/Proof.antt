@@ -4,7 +4,7 @@ use mathlib.Core.List.{List}
 use Prim.Native.Nat.{ℕ, _-_, _≤_}
 use lib.ListN.{length}
 use Rattle.trees.specs.Tree.{at}
-use Rattle.trees.specs.Growing.{tables, Remains, Read}
+use Rattle.trees.specs.Growing.{nodeSlices, Remains, Read}
 use Rattle.trees.proofs.Ends.{fits-same}
 use Rattle.trees.proofs.Behind.{at-same}
 use Rattle.trees.proofs.Remaining.{remains-same, remains-more, remains-root}
@@ -22,8 +22,8 @@ Inv-loop bytes ends letters₀ rests₀ children-r₀ children-s₀ wholes₀ co
     × (length children-r ≡ length children-r₀)
     × (length children-s ≡ length children-s₀)
     × (length wholes ≡ length wholes₀)
-    × Read bytes ends i count (tables letters rests children-r children-s) wholes
-    × Remains count (tables letters₀ rests₀ children-r₀ children-s₀) (tables letters rests children-r children-s)
+    × Read bytes ends i count (nodeSlices letters rests children-r children-s) wholes
+    × Remains count (nodeSlices letters₀ rests₀ children-r₀ children-s₀) (nodeSlices letters rests children-r children-s)
 
 abbrev μ-loop : tie.MeasureT-loop
 μ-loop bytes ends letters₀ rests₀ children-r₀ children-s₀ wholes₀ count₀ i₀ letters rests children-r children-s wholes count i = length ends - i
