@@ -5,7 +5,7 @@ use native.Mathlib.Nat.{le-refl}
 use native.Mathlib.Omega.{arith}
 use Rattle.trees.specs.Tree.{at}
 use Rattle.levels.specs.Passes.{Forward}
-use Rattle.tables.specs.Rules.{place, Rule, B, C, D, E, F, GR, GS}
+use Rattle.tables.specs.Rules.{place, Rule, B, C, D, E, F, G}
 use Rattle.tables.specs.Nodes.{RestsEarlier}
 use Rattle.tables.proofs.Places.{place-inside, place-earlier}
 
@@ -24,9 +24,7 @@ module _ (count : ℕ) (letters rests : List ℕ) (earlier : RestsEarlier rests 
       let middle : place count (at rests v) b < count * count = place-inside (rest-inside v (m .0) (m .1)) (s .1) in
       (place-inside (rest-inside a (r .0) (r .1)) (m .1), omega arith, place-inside (r .1) (rest-inside b (s .0) (s .1)))
   rules-inside p q c (F u v x r m s) = let middle : place count v x < count * count = place-inside m s in (place-inside r m, omega arith, place-inside r s)
-  rules-inside p q c (GR a b r s) =
-      (place-inside (rest-inside a (r .0) (r .1)) (rest-inside b (s .0) (s .1)), le-refl _, place-inside (r .1) (s .1))
-  rules-inside p q c (GS a b r s) =
+  rules-inside p q c (G x a b r s) =
       (place-inside (rest-inside a (r .0) (r .1)) (rest-inside b (s .0) (s .1)), le-refl _, place-inside (r .1) (s .1))
 
   rules-later : (p q c : ℕ) → Rule count letters rests p q c → count * count ≤ q → p < c
@@ -37,8 +35,7 @@ module _ (count : ℕ) (letters rests : List ℕ) (earlier : RestsEarlier rests 
   rules-later p q c (E a v b r m s) missing =
       let middle : place count (at rests v) b < count * count = place-inside (rest-inside v (m .0) (m .1)) (s .1) in absurd (omega arith)
   rules-later p q c (F u v x r m s) missing = let middle : place count v x < count * count = place-inside m s in absurd (omega arith)
-  rules-later p q c (GR a b r s) missing = place-earlier b (earlier a (r .0) (r .1)) (rest-inside b (s .0) (s .1))
-  rules-later p q c (GS a b r s) missing = place-earlier b (earlier a (r .0) (r .1)) (rest-inside b (s .0) (s .1))
+  rules-later p q c (G x a b r s) missing = place-earlier b (earlier a (r .0) (r .1)) (rest-inside b (s .0) (s .1))
 
   pub rules-forward : Forward (Rule count letters rests) (count * count)
   rules-forward = record { inside = rules-inside; later = rules-later }

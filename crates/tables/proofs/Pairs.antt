@@ -4,12 +4,14 @@ use mathlib.Core.Logic.{_⊎_, inl, inr}
 use mathlib.Core.List.{List}
 use Prim.Native.Nat.{ℕ, _*_, _<_}
 use native.Mathlib.Omega.{arith}
+use Rattle.words.specs.Word.{Letter, R, S}
+use Rattle.words.specs.Bytes.{byte}
 use Rattle.trees.specs.Tree.{at}
 use Rattle.levels.specs.Levels.{Uses, Relaxed, Using, first, second}
 use Rattle.levels.proofs.Relaxing.{relaxed-then, relaxed-same}
-use Rattle.tables.specs.Rules.{place, Rule, B, C, D, E, F, GR, GS}
+use Rattle.tables.specs.Rules.{place, Rule, Is, B, C, D, E, F, G}
 use Rattle.tables.specs.Nodes.{Front, RestsEarlier}
-use Rattle.tables.specs.Relaxing.{UsesF, UsesR, UsesS, UsesE}
+use Rattle.tables.specs.Relaxing.{One, Joins, UsesF, UsesR, UsesS, UsesE}
 use Rattle.tables.proofs.Places.{place-inside, same-row, same-column}
 use Rattle.tables.proofs.Forward.{rest-inside}
 
@@ -31,7 +33,7 @@ module _ (count : ℕ) (letters rests : List ℕ) (earlier : RestsEarlier rests 
     code-r q c (inl (a, b, _, _, (r0, r1, r2, ra), (s0, s1, s2, sb), (same, same′))) =
         rw (same, same′, ← ra, ← sb) (first (B a y (r0, r1, r2) (s0, s1, s2)))
     code-r q c (inr (a, b, _, _, (r0, r1, r2, ra), (s0, s1, s2, sb), (same, same′))) =
-        rw (same, same′, ← ra, ← sb) (first (GR a b (r0, r1, r2) (s0, s1, s2)))
+        rw (same, same′, ← ra, ← sb) (first (G R a b (r0, r1, r2) (s0, s1, s2)))
 
     code-s : (q c : ℕ) → UsesS count letters rests x y q c → Using Rules (place count x y) q c
     code-s q c (inl (inl (a, b, _, _, (m, _, (m0, m1, m2, mx), (r0, r1, r2, ra)), (s0, s1, s2, sb), (same, same′)))) =
@@ -39,7 +41,7 @@ module _ (count : ℕ) (letters rests : List ℕ) (earlier : RestsEarlier rests 
     code-s q c (inl (inr (a, b, _, _, (r0, r1, r2, ra), (m, _, (s0, s1, s2, sm), (m0, m1, m2, mb)), (same, same′)))) =
         rw (same, same′, ← ra, ← mb, ← sm) (first (D a y (r0, r1, r2) (s0, s1, s2) (rw sm (m0, m1, m2))))
     code-s q c (inr (a, b, _, _, (r0, r1, r2, ra), (s0, s1, s2, sb), (same, same′))) =
-        rw (same, same′, ← ra, ← sb) (first (GS a b (r0, r1, r2) (s0, s1, s2)))
+        rw (same, same′, ← ra, ← sb) (first (G S a b (r0, r1, r2) (s0, s1, s2)))
 
     code-e : (q c : ℕ) → UsesE count letters rests x y q c → Using Rules (place count x y) q c
     code-e q c (a, v, _, _, (r0, r1, r2, ra), (m0, m1, m2, mv), (b, _, (t, _, (s0, s1, s2, st), inl (same, same′)))) =
@@ -62,6 +64,19 @@ module _ (count : ℕ) (letters rests : List ℕ) (earlier : RestsEarlier rests 
     renamed : {letter : ℕ} (b c : ℕ) → b ≡ c → (0 < b) × (b < count) × (at letters b ≡ letter) → Front count letters rests letter c (at rests b)
     renamed {letter} b c same (positive, inside, spelled) =
         subst (λ (n : ℕ). Front count letters rests letter n (at rests b)) same (positive, inside, spelled, refl)
+
+    by-g : (l : Letter) (a b : ℕ) → Is count letters rests l a → Is count letters rests l b → place count (at rests a) (at rests b) ≡ place count x y
+        → Joins count (λ m. Front count letters rests (byte l) m x) (λ m. Front count letters rests (byte l) m y) (One count) (count * count) (place count a b)
+    by-g l a b r s at-z =
+        let s-rest = rest-inside count letters rests earlier b (s .0) (s .1) in (
+          a,
+          b,
+          r .1,
+          s .1,
+          front a x r (same-row (at rests a) x s-rest column at-z),
+          front b y s (same-column (at rests a) x s-rest column at-z),
+          (refl, refl),
+        )
 
     rule-first : {z q c : ℕ} → Rules z q c → z ≡ place count x y → UsesAll q c
     rule-first (B a b r s) at-z =
@@ -113,28 +128,8 @@ module _ (count : ℕ) (letters rests : List ℕ) (earlier : RestsEarlier rests 
         let row-same = same-row u x m column at-z in
         let column-same = same-column u x m column at-z in
         inl (inl (inl (inl (j, s, (ap (λ (n : ℕ). place count n j) column-same, ap (λ (n : ℕ). place count n j) row-same)))))
-    rule-first (GR a b r s) at-z =
-        let s-rest = rest-inside count letters rests earlier b (s .0) (s .1) in
-        inl (inl (inr (inr (
-          a,
-          b,
-          r .1,
-          s .1,
-          front a x r (same-row (at rests a) x s-rest column at-z),
-          front b y s (same-column (at rests a) x s-rest column at-z),
-          (refl, refl),
-        ))))
-    rule-first (GS a b r s) at-z =
-        let s-rest = rest-inside count letters rests earlier b (s .0) (s .1) in
-        inl (inr (inr (
-          a,
-          b,
-          r .1,
-          s .1,
-          front a x r (same-row (at rests a) x s-rest column at-z),
-          front b y s (same-column (at rests a) x s-rest column at-z),
-          (refl, refl),
-        )))
+    rule-first (G R a b r s) at-z = inl (inl (inr (inr (by-g R a b r s at-z))))
+    rule-first (G S a b r s) at-z = inl (inr (inr (by-g S a b r s at-z)))
 
     -- the place one past the end is no pair
     not-past : count * count ≡ place count x y → ⊥
@@ -160,8 +155,7 @@ module _ (count : ℕ) (letters rests : List ℕ) (earlier : RestsEarlier rests 
         let row-same = same-row v x s column at-z in
         let column-same = same-column v x s column at-z in
         inl (inl (inl (inr (u, r, (ap (λ (n : ℕ). place count u n) row-same, ap (λ (n : ℕ). place count u n) column-same)))))
-    rule-second (GR a b r s) at-z = absurd (not-past at-z)
-    rule-second (GS a b r s) at-z = absurd (not-past at-z)
+    rule-second (G l a b r s) at-z = absurd (not-past at-z)
 
     rule-uses : (q c : ℕ) → Using Rules (place count x y) q c → UsesAll q c
     rule-uses q c (first rule) = rule-first rule refl
