@@ -44,7 +44,8 @@ module _ {count : ℕ} where
   not-found finds outside p inside is = omega (arith, finds .only p inside is)
 
   -- what is found from what was found
-  pub finds-through : {P : ℕ → Type 0} {Q : ℕ → ℕ → Type 0} {m r : ℕ} → ((a : ℕ) → Q m a → m < count) → Finds count P m → Finds count (Q m) r → Finds count (Through count P Q) r
+  pub finds-through : {P : ℕ → Type 0} {Q : ℕ → ℕ → Type 0} {m r : ℕ} → ((a : ℕ) → Q m a → m < count)
+      → Finds count P m → Finds count (Q m) r → Finds count (Through count P Q) r
   finds-through {P} {Q} {m} {r} node first second =
       record {
         found = λ inside. let q = second .found inside in let below = node r q in (m, below, first .found below, q);

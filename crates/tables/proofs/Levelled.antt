@@ -47,13 +47,13 @@ cleared count n same =
     })
 
 module _ (count : ℕ) (letters rests wholes : List ℕ) (earlier : RestsEarlier rests count) (n : ℕ) where
-  made-step : (p q c v v′ : ℕ) → Rule count letters rests p q c → Made count letters rests wholes p v → Premise (Made count letters rests wholes) (count * count) q v′
-      → Made count letters rests wholes c (v + v′)
+  made-step : (p q c v v′ : ℕ) → Rule count letters rests p q c → Made count letters rests wholes p v
+      → Premise (Made count letters rests wholes) (count * count) q v′ → Made count letters rests wholes c (v + v′)
   made-step p q c v v′ rule made (led inside other) = two rule made other
   made-step p q c v v′ rule made (missing past none) = let sum : v + v′ ≡ v = omega arith in rw sum (one rule past made)
 
-  pub levelled-begins : {t t′ : List ℕ} → 1 ≤ count → AllBelow wholes (length wholes) count → t ≡ replicate (count * count) (n + 1) → Relaxed 1 (Starts count wholes) t t′
-      → Levelled count letters rests wholes n 1 t′
+  pub levelled-begins : {t t′ : List ℕ} → 1 ≤ count → AllBelow wholes (length wholes) count → t ≡ replicate (count * count) (n + 1)
+      → Relaxed 1 (Starts count wholes) t t′ → Levelled count letters rests wholes n 1 t′
   levelled-begins {t} {t′} some inside same relaxed =
       record {
         counts = counts;
@@ -83,8 +83,8 @@ module _ (count : ℕ) (letters rests wholes : List ℕ) (earlier : RestsEarlier
           let none : entry t p ≡ n + 1 = ap (λ (l : List ℕ). entry l p) same ∙ getD-replicate (count * count) p (n + 1) 0 (omega (arith, clear .long)) in
           absurd (omega arith)
 
-  pub levelled-more : {k next : ℕ} {t t′ : List ℕ} → 1 ≤ k → k ≤ n → Levelled count letters rests wholes n k t → Passes (Rule count letters rests) k (count * count) t t′
-      → NextLevel n t′ k next → Levelled count letters rests wholes n next t′
+  pub levelled-more : {k next : ℕ} {t t′ : List ℕ} → 1 ≤ k → k ≤ n → Levelled count letters rests wholes n k t
+      → Passes (Rule count letters rests) k (count * count) t t′ → NextLevel n t′ k next → Levelled count letters rests wholes n next t′
   levelled-more {k} {next} {t} {t′} positive small levelled passes after =
       record {
         counts = counts;

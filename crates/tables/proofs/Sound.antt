@@ -80,6 +80,7 @@ module _ {gens words : List Word} {letters rests childrenR childrenS wholes : Li
       led-at a1 b1
       (kept (λ r l. leads-as gens (sym (is-letter tree x a a0 a1 a2)) (sym (is-letter tree x b b0 b1 b2)) (leads-behind gens (x ∷ []) l))
       (led (at rests a) (at rests b) (rest-inside a a0 a1) (rest-inside b b0 b1) refl))
+
   made-two : {p q c v v′ : ℕ} → Rule (length words) letters rests p q c → q < length words * length words → LedAt p v → LedAt q v′ → LedAt c (v + v′)
   made-two (B a b r s) inside led led′ = absurd (omega arith)
   made-two (C a b r m s) inside led led′ = absurd (omega arith)

@@ -24,7 +24,8 @@ module _ {count : ℕ} {letters rests wholes : List ℕ} {n : ℕ} where
       let low′ = made-least full made′ (omega arith) in
       omega (arith, full .closed p q c rule (omega arith))
 
-  no-higher : {t t′ : List ℕ} → Full count letters rests wholes n t → Full count letters rests wholes n t′ → (p : ℕ) → p < count * count → entry t p ≤ entry t′ p
+  no-higher : {t t′ : List ℕ} → Full count letters rests wholes n t → Full count letters rests wholes n t′
+      → (p : ℕ) → p < count * count → entry t p ≤ entry t′ p
   no-higher {t} {t′} full full′ p inside =
       elim (decLt n (entry t′ p)) [
         | yes above ↦ omega (arith, full .counts .high p inside)

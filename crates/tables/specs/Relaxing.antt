@@ -61,7 +61,8 @@ module _ (count : ℕ) where
     -- with (x, y) second, (b, v) from (t, a).
     abbrev pub TripleTurn : ℕ → ℕ → ℕ → Uses
     TripleTurn a v b q c =
-        (t : ℕ) × (t < count) × Front count letters rests 83 b t × (Only (place count v b) (place count a t) q c ⊎ Only (place count t a) (place count b v) q c)
+        (t : ℕ) × (t < count) × Front count letters rests 83 b t
+        × (Only (place count v b) (place count a t) q c ⊎ Only (place count t a) (place count b v) q c)
 
     abbrev pub Triples : ℕ → ℕ → Uses
     Triples a v = Upto (TripleTurn a v) count

@@ -92,7 +92,8 @@ fn has_shape(
     requires { ⌜ count ≤ length (now rests) ⌝ }
     requires { ⌜ count ≤ length (now «children_r») ⌝ }
     requires { ⌜ count ≤ length (now «children_s») ⌝ }
-    ensures { λ r. ⌜ Tells r (Shape count (now (letters .entry)) (now (rests .entry)) (now («children_r» .entry)) (now («children_s» .entry)) (now (wholes .entry))) ⌝ }
+    ensures { λ r. ⌜ Tells r
+        (Shape count (now (letters .entry)) (now (rests .entry)) (now («children_r» .entry)) (now («children_s» .entry)) (now (wholes .entry))) ⌝ }
 {
     if rests_earlier(rests, count) {
         if all_below(children_r, count, count) {
@@ -210,7 +211,9 @@ pub(crate) fn fits(
     n: Factors,
     table: &[u16],
 ) -> bool
-    ensures { λ r. ⌜ Tells r (Fits count (now (letters .entry)) (now (rests .entry)) (now («children_r» .entry)) (now («children_s» .entry)) (now (wholes .entry)) (n .0) (now (table .entry))) ⌝ }
+    ensures { λ r. ⌜ Tells r
+        (Fits count (now (letters .entry)) (now (rests .entry)) (now («children_r» .entry)) (now («children_s» .entry))
+        (now (wholes .entry)) (n .0) (now (table .entry))) ⌝ }
 {
     if has_room(
         count,

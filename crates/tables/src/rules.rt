@@ -135,6 +135,7 @@ fn relax_s(
 }
 
 // E at a node b that begins with S, whose rest is t: with the pair first, (a, t) from (v, b); with the pair second, (b, v) from (t, a).
+// The rest is read without a test of the place, since this is the body of the loop that rule E is.
 fn relax_triple(
     table: &mut [u16],
     count: usize,
@@ -237,7 +238,8 @@ pub(crate) fn relax_pair(
     requires { ⌜ Linked count (now letters) (now rests) (now «children_r») (now «children_s») ⌝ }
     requires { ⌜ x < count ⌝ }
     requires { ⌜ y < count ⌝ }
-    ensures { λ _. ⌜ Relaxed (k .0) (Using (Rule count (now (letters .entry)) (now (rests .entry))) (place count x y)) (now (table .entry)) (now (table .exit)) ⌝ }
+    ensures { λ _. ⌜ Relaxed (k .0) (Using (Rule count (now (letters .entry)) (now (rests .entry))) (place count x y))
+        (now (table .entry)) (now (table .exit)) ⌝ }
 {
     relax_f(table, count, x, y, k);
     relax_r(table, count, letters, rests, children_r, x, y, k);

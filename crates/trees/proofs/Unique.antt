@@ -78,7 +78,8 @@ module _ {bytes ends : List ℕ} {before after after′ : Slices} {count : ℕ} 
       let inside : (p : ℕ) → p < count → p < length (numbered (generators bytes ends)) = λ p h. omega arith in
       slices-same
       (same-entries count _ _ (omega (arith, shape .room-letters)) (omega (arith, shape′ .room-letters))
-      (root (after .letters) (after′ .letters) (b .remains .root-letter ∙ sym (b′ .remains .root-letter)) (λ p positive h. letter-unique t t′ p positive (inside p h)))
+      (root (after .letters) (after′ .letters) (b .remains .root-letter ∙ sym (b′ .remains .root-letter))
+      (λ p positive h. letter-unique t t′ p positive (inside p h)))
       (b .remains .letters ∙ sym (b′ .remains .letters)))
       (same-entries count _ _ (omega (arith, shape .room-rests)) (omega (arith, shape′ .room-rests))
       (root (after .rests) (after′ .rests) (b .root-rest ∙ sym (b′ .root-rest)) (λ p positive h. rest-unique t t′ p positive (inside p h)))

@@ -1,4 +1,5 @@
--- Where no entry lies above the level, a pass changes nothing. In the loop the places before the pair are visited. Those that `seek` passes over are without the level. Assumes nothing.
+-- Where no entry lies above the level, a pass changes nothing. In the loop the places before the pair are visited.
+-- Those that `seek` passes over are without the level. Assumes nothing.
 use mathlib.Core.Path.{_≡_, sym, subst}
 use Prim.Native.Nat.{ℕ, _*_, _-_, _≤_, _<_}
 use Rattle.tables.specs.Rules.{place, Rule}

@@ -16,7 +16,7 @@ use Rattle.tables.proofs.passes.start.Statement.{statement}
 use Rattle.tables.proofs.passes.start.Tie as tie
 
 abbrev Inv-loop : tie.InvT-loop
-Inv-loop table₀ count wholes j₀ table j = (j ≤ length wholes) × Relaxed 1 (Upto (StartTurn count wholes) j) table₀ table
+Inv-loop table₀ count wholes j₀ table j = Relaxed 1 (Upto (StartTurn count wholes) j) table₀ table × (j ≤ length wholes)
 
 abbrev μ-loop : tie.MeasureT-loop
 μ-loop table₀ count wholes j₀ table j = length wholes - j
@@ -31,10 +31,10 @@ whole-inside c =
     let p = start .pre in
     let l = at-loop .loop in
     let rows : a .count ≤ a .count * a .count = le-mul-of-pos-right (a .count) (p .1 .0) in
-    omega (arith, c .entry .ensures .0, p .1 .1 (l .j) (at-loop-test .loop-test .taken), lowers-length (l .inv .1 .lowers), p .0)
+    omega (arith, c .entry .ensures .0, p .1 .1 (l .j) (at-loop-test .loop-test .taken), lowers-length (l .inv .0 .lowers), p .0)
 
 loop-holds : tie.Need-loop-holds Inv-loop μ-loop
-loop-holds c = (omega arith, relaxed-begins)
+loop-holds c = (relaxed-begins, omega arith)
 
 entry-requires : tie.Need-entry-requires Inv-loop μ-loop
 entry-requires c κs = search needs
@@ -57,20 +57,20 @@ loop-again c =
     let a = start .args in
     let l = at-loop .loop in
     let place-of : at-entry .entry .result ≡ place (a .count) 0 (at (a .wholes .now) (l .j)) = omega (arith, at-entry .entry .ensures .0) in (
-      omega arith,
-      relaxed-turn {Y = StartTurn (a .count) (a .wholes .now)} (l .inv .1)
-          (relaxed-at _ _ _ _ (lowers-length (l .inv .1 .lowers) ∙ start .pre .0) place-of
+      relaxed-turn {Y = StartTurn (a .count) (a .wholes .now)} (l .inv .0)
+          (relaxed-at _ _ _ _ (lowers-length (l .inv .0 .lowers) ∙ start .pre .0) place-of
           (rw (at-relax .relax .ensures) (relaxed-one-missing (l .table) (at-entry .entry .result) (whole-inside at-entry)))),
+      omega arith,
     )
 
 same-length : tie.Need-same-length Inv-loop μ-loop
-same-length c = lowers-length (c .before .loop .inv .1 .lowers)
+same-length c = lowers-length (c .before .loop .inv .0 .lowers)
 
 returns : tie.Need-returns Inv-loop μ-loop
 returns c =
     let start = c .before .before .before .before in
     let a = start .args in
-    relaxed-all (StartTurn (a .count) (a .wholes .now)) (c .before .loop .j) (length (a .wholes .now)) (omega arith) (c .before .loop .inv .1)
+    relaxed-all (StartTurn (a .count) (a .wholes .now)) (c .before .loop .j) (length (a .wholes .now)) (omega arith) (c .before .loop .inv .0)
 
 pub start-spec : {M : Type 1} → statement M
 start-spec =

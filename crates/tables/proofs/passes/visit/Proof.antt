@@ -35,7 +35,8 @@ returns c =
     let at-relax-pair = c .before .before in
     let at-if1 = at-relax-pair .before .before in
     let at-place-of = at-if1 .before .before .before in
-    relaxed (ap (entry (begun at-place-of .args .table .now)) (sym (at-place-of .place-of .ensures .0)) ∙ at-if1 .if1 .taken) (at-relax-pair .relax-pair .ensures)
+    relaxed (ap (entry (begun at-place-of .args .table .now)) (sym (at-place-of .place-of .ensures .0)) ∙ at-if1 .if1 .taken)
+    (at-relax-pair .relax-pair .ensures)
 
 returns-2 : tie.Need-returns-2
 returns-2 c =

@@ -37,8 +37,10 @@ relax-in-column-requires-2 c κs =
     let at-first = c .before .before .before in
     let at-loop = at-first .before .before .before in
     let start = at-loop .before .before in
-    let p = start .pre in
-    (ready-relaxed (ready-relaxed (p .0) (at-loop .loop .inv .1)) (at-first .relax-in-column .ensures), (p .1 .0, (p .1 .1, at-first .before .before .loop-test .taken)))
+    let p = start .pre in (
+      ready-relaxed (ready-relaxed (p .0) (at-loop .loop .inv .1)) (at-first .relax-in-column .ensures),
+      (p .1 .0, (p .1 .1, at-first .before .before .loop-test .taken)),
+    )
 
 add-i : tie.Need-add-i Inv-loop μ-loop
 add-i c = search needs

@@ -89,7 +89,8 @@ returns-2 c =
     let rest-twice = finds-through {Q = λ m z. Front count letters rests 83 m z} (λ z fronts. fronts .1) rest (at-tail2 .tail2 .ensures) in
     let front-y = child-front linked (at-child3 .child3 .ensures) in
     relaxed-then
-    (relaxed-then (joined {Y = One count} front-twice rest (at-relax-at .relax-at .ensures)) (joined {Y = One count} front rest-twice (at-relax-at2 .relax-at2 .ensures)))
+    (relaxed-then (joined {Y = One count} front-twice rest (at-relax-at .relax-at .ensures))
+    (joined {Y = One count} front rest-twice (at-relax-at2 .relax-at2 .ensures)))
     (joined {Y = One count} front front-y (at-relax-at3 .relax-at3 .ensures))
 
 pub relax-s-spec : {M : Type 1} → statement M

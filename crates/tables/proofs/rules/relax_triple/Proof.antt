@@ -103,7 +103,8 @@ returns c =
     (relaxed-then
     (relaxed-at (at-place-of .place-of .result) _ (at-place-of2 .place-of2 .result) _ (at-place-of .place-of .ensures .0)
     (at-place-of2 .place-of2 .ensures .0 ∙ ap (place count (a .a)) rest) (at-first .relax-from .ensures))
-    (relaxed-at (at-place-of3 .place-of3 .result) _ (at-place-of4 .place-of4 .result) _ (at-place-of3 .place-of3 .ensures .0 ∙ ap (λ (t : ℕ). place count t (a .a)) rest)
+    (relaxed-at (at-place-of3 .place-of3 .result) _ (at-place-of4 .place-of4 .result) _
+    (at-place-of3 .place-of3 .ensures .0 ∙ ap (λ (t : ℕ). place count t (a .a)) rest)
     (at-place-of4 .place-of4 .ensures .0) (at-second .relax-from2 .ensures)))
 
 returns-2 : tie.Need-returns-2

@@ -16,14 +16,14 @@ use Rattle.trees.proofs.reading.read_all.Tie as tie
 
 abbrev Inv-loop : tie.InvT-loop
 Inv-loop bytes ends letters₀ rests₀ children-r₀ children-s₀ wholes₀ count₀ i₀ letters rests children-r children-s wholes count i =
-    (i ≤ length ends)
+    Read bytes ends i count (nodeSlices letters rests children-r children-s) wholes
+    × Remains count (nodeSlices letters₀ rests₀ children-r₀ children-s₀) (nodeSlices letters rests children-r children-s)
+    × (i ≤ length ends)
     × (length letters ≡ length letters₀)
     × (length rests ≡ length rests₀)
     × (length children-r ≡ length children-r₀)
     × (length children-s ≡ length children-s₀)
     × (length wholes ≡ length wholes₀)
-    × Read bytes ends i count (nodeSlices letters rests children-r children-s) wholes
-    × Remains count (nodeSlices letters₀ rests₀ children-r₀ children-s₀) (nodeSlices letters rests children-r children-s)
 
 abbrev μ-loop : tie.MeasureT-loop
 μ-loop bytes ends letters₀ rests₀ children-r₀ children-s₀ wholes₀ count₀ i₀ letters rests children-r children-s wholes count i = length ends - i
@@ -53,12 +53,6 @@ loop-holds c =
     let start = begun called in
     let a = start .args in
     let made = called .make-root .ensures in (
-      omega arith,
-      refl,
-      refl,
-      refl,
-      refl,
-      refl,
       read-begins
           (a .bytes .now)
           (a .ends .now)
@@ -71,6 +65,12 @@ loop-holds c =
           (ap (λ (l : List ℕ). at l 0) (made .1) ∙ at-same (a .children-r .now) 0 0 (omega (arith, start .pre .room-r)))
           (ap (λ (l : List ℕ). at l 0) (made .2) ∙ at-same (a .children-s .now) 0 0 (omega (arith, start .pre .room-s))),
       remains-same _ _,
+      omega arith,
+      refl,
+      refl,
+      refl,
+      refl,
+      refl,
     )
 
 read-generator-requires : tie.Need-read-generator-requires Inv-loop μ-loop
@@ -80,7 +80,7 @@ read-generator-requires c κs =
     let called = before-loop test in
     let k = called .make-root .kept in
     let start = begun called in
-    (test .loop-test .taken, (fits-same (start .pre) (l .1) (l .2 ∙ k .0) (l .3 ∙ k .1 .0) (l .4 ∙ k .1 .1 .0) (l .5), l .6))
+    (test .loop-test .taken, (fits-same (start .pre) (l .3) (l .4 ∙ k .0) (l .5 ∙ k .1 .0) (l .6 ∙ k .1 .1 .0) (l .7), l .0))
 
 add-i : tie.Need-add-i Inv-loop μ-loop
 add-i c =
@@ -97,14 +97,14 @@ loop-again c =
     let test = turn called in
     let l = test .before .loop .inv in
     let k = called .read-generator .kept .1 .1 .1 in (
-      omega (arith, test .loop-test .taken),
-      k .0 ∙ l .1,
-      k .1 .0 ∙ l .2,
-      k .1 .1 .0 ∙ l .3,
-      k .1 .1 .1 .0 ∙ l .4,
-      k .1 .1 .1 .1 .0 ∙ l .5,
       called .read-generator .ensures .0,
-      remains-more _ _ _ (called .read-generator .ensures .1 .0) (l .7) (called .read-generator .ensures .1 .1),
+      remains-more _ _ _ (called .read-generator .ensures .1 .0) (l .1) (called .read-generator .ensures .1 .1),
+      omega (arith, test .loop-test .taken),
+      k .0 ∙ l .3,
+      k .1 .0 ∙ l .4,
+      k .1 .1 .0 ∙ l .5,
+      k .1 .1 .1 .0 ∙ l .6,
+      k .1 .1 .1 .1 .0 ∙ l .7,
     )
 
 same-length : tie.Need-same-length Inv-loop μ-loop
@@ -127,12 +127,12 @@ returns c =
     let l = c .before .loop in
     let called = rooted (c .before .before) in
     let start = begun called in
-    let all : l .i ≡ length (start .args .ends .now) = omega (arith, l .inv .0, c .loop-test .left) in
+    let all : l .i ≡ length (start .args .ends .now) = omega (arith, l .inv .2, c .loop-test .left) in
     let a = start .args in
     let made = called .make-root .ensures in
-    let all-read = l .inv .6 in
+    let all-read = l .inv .0 in
     let root = remains-root (a .letters .now) (a .rests .now) (a .children-r .now) (a .children-s .now) (made .0) (made .1) (made .2) in
-    (rw (← all) all-read, remains-more _ _ _ (omega (arith, all-read .counted, all-read .grown .nodes .some)) root (l .inv .7))
+    (rw (← all) all-read, remains-more _ _ _ (omega (arith, all-read .counted, all-read .grown .nodes .some)) root (l .inv .1))
 
 pub read-all-spec : {M : Type 1} → statement M
 read-all-spec =
