@@ -51,7 +51,7 @@ module _ {count a b k : ℕ} (Y : ℕ → ℕ → Uses) where
   pub outside-relaxed : {t : List ℕ} → (a < count → b < count → ⊥) → Relaxed k (Inside count a b Y) t t
   outside-relaxed outside = relaxed-none (λ q c y. outside (y .0) (y .1))
 
--- ---- where a node is found, and where there is none
+-- ---- where a node is found
 
 abbrev AtFound : ℕ → (ℕ → Type 0) → (ℕ → Uses) → Uses
 AtFound count P Y q c = (s : ℕ) × (s < count) × P s × Y s q c
@@ -61,6 +61,3 @@ module _ {count r : ℕ} {P : ℕ → Type 0} (Y : ℕ → Uses) (finds : Finds 
   found-relaxed inside relaxed =
       relaxed-same (λ q c y within. (r, inside, finds .found inside, y))
       (λ q c y within. subst (λ (s : ℕ). Y s q c) (finds .only (y .0) (y .1) (y .2)) (y .3)) relaxed
-
-  pub not-found-relaxed : {k : ℕ} {t : List ℕ} → count ≤ r → Relaxed k (AtFound count P Y) t t
-  not-found-relaxed outside = relaxed-none (λ q c y. omega (arith, finds .only (y .0) (y .1) (y .2), y .1))
