@@ -35,7 +35,7 @@ pub(crate) fn begins(letters: &[u8], letter: u8, p: usize) -> bool
 }
 
 // The rest of p, where p's word begins with the letter.
-pub(crate) fn tail(letters: &[u8], rests: &[u16], count: usize, letter: u8, p: usize) -> usize
+pub(crate) fn rest_after(letters: &[u8], rests: &[u16], count: usize, letter: u8, p: usize) -> usize
     requires { ⌜ count ≤ length (now letters) ⌝ }
     requires { ⌜ count ≤ length (now rests) ⌝ }
     ensures { λ r. ⌜ Finds count (Front count (now (letters .entry)) (now (rests .entry)) letter p) r ⌝ }

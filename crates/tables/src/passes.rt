@@ -131,8 +131,8 @@ fn pass(
     requires { ⌜ 1 ≤ count ⌝ }
     ensures { λ _. ⌜ Passes (Rule count (now (letters .entry)) (now (rests .entry))) (k .0) (count * count) (now (table .entry)) (now (table .exit)) ⌝ }
 {
-    let above = k.0 + 1;
-    if absent(table, 0, table.len(), Factors(above), Factors(u16::MAX)) {
+    let next = k.0 + 1;
+    if absent(table, 0, table.len(), Factors(next), Factors(u16::MAX)) {
         return;
     }
     let mut pair = Pair { row: 0, column: 0 };

@@ -2,7 +2,7 @@
 use crate::nodes::begins;
 use crate::nodes::child;
 use crate::nodes::place_of;
-use crate::nodes::tail;
+use crate::nodes::rest_after;
 use crate::relaxing::lower;
 use crate::relaxing::relax_at;
 use crate::relaxing::relax_from;
@@ -105,7 +105,7 @@ fn relax_r(
     if count <= a {
         return;
     }
-    relax_at(table, count, a, tail(letters, rests, count, 82, y), k);
+    relax_at(table, count, a, rest_after(letters, rests, count, 82, y), k);
     relax_at(table, count, a, child(children_r, count, y), k);
 }
 
@@ -128,9 +128,9 @@ fn relax_s(
     if count <= a {
         return;
     }
-    let b = tail(letters, rests, count, 83, y);
+    let b = rest_after(letters, rests, count, 83, y);
     relax_at(table, count, child(children_s, count, a), b, k);
-    relax_at(table, count, a, tail(letters, rests, count, 83, b), k);
+    relax_at(table, count, a, rest_after(letters, rests, count, 83, b), k);
     relax_at(table, count, a, child(children_s, count, y), k);
 }
 
@@ -217,7 +217,7 @@ fn relax_e(
         letters,
         rests,
         a,
-        tail(letters, rests, count, 83, y),
+        rest_after(letters, rests, count, 83, y),
         k,
     );
 }

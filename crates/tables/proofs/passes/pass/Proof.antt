@@ -15,12 +15,12 @@ use Rattle.tables.proofs.passes.pass.Statement.{statement}
 use Rattle.tables.proofs.passes.pass.Tie as tie
 
 abbrev Inv-loop : tie.InvT-loop
-Inv-loop table₀ count letters rests children-r children-s k above pair₀ table pair =
+Inv-loop table₀ count letters rests children-r children-s k next pair₀ table pair =
     (pair .column < count) × (place count (pair .row) (pair .column) ≤ count * count)
     × Passes (Rule count letters rests) (k .0) (place count (pair .row) (pair .column)) table₀ table
 
 abbrev μ-loop : tie.MeasureT-loop
-μ-loop table₀ count letters rests children-r children-s k above pair₀ table pair = count * count - place count (pair .row) (pair .column)
+μ-loop table₀ count letters rests children-r children-s k next pair₀ table pair = count * count - place count (pair .row) (pair .column)
 
 -- the first state, from the one behind the test of the levels above, and from the loop
 abbrev begun : tie.After-absent Inv-loop μ-loop → tie.Start Inv-loop μ-loop
@@ -29,8 +29,8 @@ begun c = c .before .before .before .before .before .before .before .before
 abbrev entered : tie.At-loop Inv-loop μ-loop → tie.Start Inv-loop μ-loop
 entered c = begun (c .before .before)
 
-add-above : tie.Need-add-above Inv-loop μ-loop
-add-above c = search needs
+add-next : tie.Need-add-next Inv-loop μ-loop
+add-next c = search needs
 
 absent-requires : tie.Need-absent-requires Inv-loop μ-loop
 absent-requires c κs = search needs
@@ -129,7 +129,7 @@ pass-spec =
     (tie.spec
     Inv-loop
     μ-loop
-    add-above
+    add-next
     absent-requires
     same-length
     returns

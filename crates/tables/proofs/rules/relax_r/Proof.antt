@@ -26,8 +26,8 @@ returns c =
     let none = not-found (child-front (start .pre .1) (at-child .child .ensures)) (c .if1 .taken) in
     relaxed-then (none-joined none) (none-joined none)
 
-tail-requires : tie.Need-tail-requires
-tail-requires c κs =
+rest-after-requires : tie.Need-rest-after-requires
+rest-after-requires c κs =
     let linked = begun (c .before .before) .pre .1 in (linked .followed .room-letters, linked .followed .room-rests)
 
 relax-at-requires : tie.Need-relax-at-requires
@@ -52,7 +52,7 @@ returns-2 c =
     let at-relax-at2 = c .before .before in
     let at-child2 = at-relax-at2 .before in
     let at-relax-at = at-child2 .before .before .before .before in
-    let at-tail = at-relax-at .before in
+    let at-rest-after = at-relax-at .before in
     let at-child = found at-relax-at in
     let start = begun at-child in
     let count = start .args .count in
@@ -60,7 +60,7 @@ returns-2 c =
     let front = child-front linked (at-child .child .ensures) in
     let front-y = child-front linked (at-child2 .child2 .ensures) in
     relaxed-then
-    (joined {Y = One count} front (at-tail .tail .ensures) (at-relax-at .relax-at .ensures))
+    (joined {Y = One count} front (at-rest-after .rest-after .ensures) (at-relax-at .relax-at .ensures))
     (joined {Y = One count} front front-y (at-relax-at2 .relax-at2 .ensures))
 
 pub relax-r-spec : {M : Type 1} → statement M
@@ -69,7 +69,7 @@ relax-r-spec =
     (tie.spec
     child-requires
     returns
-    tail-requires
+    rest-after-requires
     relax-at-requires
     child-requires-2
     relax-at-requires-2

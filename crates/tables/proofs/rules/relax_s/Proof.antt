@@ -30,8 +30,8 @@ returns c =
     let none = not-found (child-front (start .pre .1) (at-child .child .ensures)) (c .if1 .taken) in
     relaxed-then (relaxed-then (none-joined (λ p inside through. none (through .0) (through .1) (through .2))) (none-joined none)) (none-joined none)
 
-tail-requires : tie.Need-tail-requires
-tail-requires c κs =
+rest-after-requires : tie.Need-rest-after-requires
+rest-after-requires c κs =
     let linked = begun (c .before) .pre .1 in (linked .followed .room-letters, linked .followed .room-rests)
 
 child-requires-2 : tie.Need-child-requires-2
@@ -40,8 +40,8 @@ child-requires-2 c κs = begun (c .before .before .before) .pre .1 .followed .ro
 relax-at-requires : tie.Need-relax-at-requires
 relax-at-requires c κs = begun (c .before .before .before .before) .pre .0
 
-tail-requires-2 : tie.Need-tail-requires-2
-tail-requires-2 c κs =
+rest-after-requires-2 : tie.Need-rest-after-requires-2
+rest-after-requires-2 c κs =
     let linked = begun (found (c .before .before .before)) .pre .1 in (linked .followed .room-letters, linked .followed .room-rests)
 
 relax-at-requires-2 : tie.Need-relax-at-requires-2
@@ -71,11 +71,11 @@ returns-2 c =
     let at-relax-at3 = c .before .before in
     let at-child3 = at-relax-at3 .before in
     let at-relax-at2 = at-child3 .before .before .before .before in
-    let at-tail2 = at-relax-at2 .before in
-    let at-relax-at = at-tail2 .before .before .before .before in
+    let at-rest-after2 = at-relax-at2 .before in
+    let at-relax-at = at-rest-after2 .before .before .before .before in
     let at-child2 = at-relax-at .before in
-    let at-tail = at-child2 .before .before in
-    let at-child = at-tail .before .before in
+    let at-rest-after = at-child2 .before .before in
+    let at-child = at-rest-after .before .before in
     let start = begun at-child in
     let count = start .args .count in
     let letters = start .args .letters .now in
@@ -85,8 +85,8 @@ returns-2 c =
     let front-twice =
     finds-through {Q = λ m z. Front count letters rests 83 z m} (λ z fronts. front-node (linked .followed) fronts) front
     (child-front linked (at-child2 .child2 .ensures)) in
-    let rest = at-tail .tail .ensures in
-    let rest-twice = finds-through {Q = λ m z. Front count letters rests 83 m z} (λ z fronts. fronts .1) rest (at-tail2 .tail2 .ensures) in
+    let rest = at-rest-after .rest-after .ensures in
+    let rest-twice = finds-through {Q = λ m z. Front count letters rests 83 m z} (λ z fronts. fronts .1) rest (at-rest-after2 .rest-after2 .ensures) in
     let front-y = child-front linked (at-child3 .child3 .ensures) in
     relaxed-then
     (relaxed-then (joined {Y = One count} front-twice rest (at-relax-at .relax-at .ensures))
@@ -99,10 +99,10 @@ relax-s-spec =
     (tie.spec
     child-requires
     returns
-    tail-requires
+    rest-after-requires
     child-requires-2
     relax-at-requires
-    tail-requires-2
+    rest-after-requires-2
     relax-at-requires-2
     child-requires-3
     relax-at-requires-3

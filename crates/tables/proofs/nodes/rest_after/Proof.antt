@@ -5,8 +5,8 @@ use Rattle.tables.specs.Nodes.{Finds, Front}
 use Rattle.tables.proofs.Finding.{rest-front, no-front}
 use borrow.Author.Needs.{needs}
 use native.Mathlib.Omega.{arith}
-use Rattle.tables.proofs.nodes.tail.Statement.{statement}
-use Rattle.tables.proofs.nodes.tail.Tie as tie
+use Rattle.tables.proofs.nodes.rest_after.Statement.{statement}
+use Rattle.tables.proofs.nodes.rest_after.Tie as tie
 
 returns : tie.Need-returns
 returns c = search needs
@@ -32,5 +32,5 @@ returns-3 c =
     let none = no-front (a .letters .now) (a .rests .now) (a .p) (told-not _ (c .if2 .left) (c .before .begins .ensures)) in
     record { found = λ inside. absurd (omega arith); only = λ s inside front. absurd (none s front) }
 
-pub tail-spec : {M : Type 1} → statement M
-tail-spec = tie.close (tie.spec returns begins-requires entry-requires returns-2 returns-3)
+pub rest-after-spec : {M : Type 1} → statement M
+rest-after-spec = tie.close (tie.spec returns begins-requires entry-requires returns-2 returns-3)
