@@ -13,7 +13,7 @@ use Rattle.trees.specs.Tree.{at, wordAt, Tree}
 use Rattle.levels.specs.Levels.{entry}
 use Rattle.tables.specs.Rules.{place, Rule, Is, B, C, D, E, F, G}
 use Rattle.tables.specs.Levelling.{Full}
-use Rattle.trees.proofs.Nodes.{node-number, node-number-at, state-number, begins-with}
+use Rattle.trees.proofs.Nodes.{node-number, node-number-at, state-number, begins-letter}
 
 module _ {gens words : List Word} {letters rests childrenR childrenS wholes : List ℕ} (tree : Tree gens words letters rests childrenR childrenS wholes) where
   -- the node of a word
@@ -32,7 +32,7 @@ module _ {gens words : List Word} {letters rests childrenR childrenS wholes : Li
       → Is (length words) letters rests a (at-word (a ∷ x)) × (at rests (at-word (a ∷ x)) ≡ at-word x)
   word-front a x s =
       let (inside, same) = state-number tree (a ∷ x) s in
-      let (positive, spelled, rest) = begins-with tree a (at-word (a ∷ x)) inside x same in
+      let (positive, spelled, rest) = begins-letter tree a (at-word (a ∷ x)) inside x same in
       ((positive, inside, spelled), number-of (at rests (at-word (a ∷ x))) x (omega (arith, tree .shape .rest-earlier (at-word (a ∷ x)) positive inside)) rest)
 
   -- the place of a pair of words

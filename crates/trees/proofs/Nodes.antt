@@ -56,9 +56,9 @@ module _ {gens words : List Word} {letters rests childrenR childrenS wholes : Li
         | no n ↦ let s = t .spelled p z h n in s ∙ ap byte (sym (ap letter s) ∙ e)
       ]
 
-  pub begins-with : (a : Letter) (p : ℕ) → p < length words → (q : Word) → wordAt words p ≡ a ∷ q
+  pub begins-letter : (a : Letter) (p : ℕ) → p < length words → (q : Word) → wordAt words p ≡ a ∷ q
       → (0 < p) × (at letters p ≡ byte a) × (wordAt words (at rests p) ≡ q)
-  begins-with a p h q e =
+  begins-letter a p h q e =
       elim (ℕ-discrete p 0) [
         | yes z ↦ absurd (nil≢cons (sym (t .root) ∙ ap (wordAt words) (sym z) ∙ e))
         | no z ↦
@@ -75,16 +75,16 @@ module _ {gens words : List Word} {letters rests childrenR childrenS wholes : Li
   is-s = is-letter S
 
   pub begins-r : (p : ℕ) → p < length words → (q : Word) → wordAt words p ≡ R ∷ q → (0 < p) × (at letters p ≡ 82) × (wordAt words (at rests p) ≡ q)
-  begins-r = begins-with R
+  begins-r = begins-letter R
 
   pub begins-s : (p : ℕ) → p < length words → (q : Word) → wordAt words p ≡ S ∷ q → (0 < p) × (at letters p ≡ 83) × (wordAt words (at rests p) ≡ q)
-  begins-s = begins-with S
+  begins-s = begins-letter S
 
   -- ---- children, by either letter
 
   child-node : (a : Letter) (p c : ℕ) → p < length words → 0 < c → c < length words → Child words a p c → (at letters c ≡ byte a) × (at rests c ≡ p)
   child-node a p c h z k d =
-      let b = begins-with a c k (wordAt words p) (d .there z) in
+      let b = begins-letter a c k (wordAt words p) (d .there z) in
       (b .1, t .once (at rests c) p (omega (arith, t .shape .rest-earlier c z k)) h (b .2))
 
   child-found : (a : Letter) (c k : ℕ) → 0 < c → c < length words → at letters c ≡ byte a → k < length words → Child words a (at rests c) k → k ≡ c
