@@ -127,7 +127,3 @@ next-level {N = N} {k} {k′} {t} counts positive none passed =
 -- at a level above n all entries up to n are settled
 pub closed-above : {Rule : Rules} {n k z : ℕ} {t : List ℕ} → n < k → Passed Rule t k z → Closed Rule n t
 closed-above above passed = λ p q c r sum. passed .holds p q c r (inl (omega arith)) (inl (omega arith))
-
--- a rule with a premise above k has a sum above n
-pub closed-at-end : {Rule : Rules} {n N k : ℕ} {t : List ℕ} → Counts n N t → 1 ≤ k → NoneBetween N t k (n + 1) → Passed Rule t k N → Closed Rule n t
-closed-at-end {n = n} counts positive none passed = closed-above {k = n + 1} (omega arith) (next-level counts positive none passed)

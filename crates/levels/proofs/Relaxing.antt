@@ -145,24 +145,27 @@ module _ {k : ℕ} {Y : Uses} where
 
 -- One pair. The value v is k where the premise is missing, since the entry one past the end is 0.
 module _ {k v : ℕ} (t : List ℕ) (q c : ℕ) (sum : v ≡ k + entry t q) where
-  -- code with an `if`: the entry is lowered, or is low enough
-  pub relaxed-one-stores : c < length t → v < entry t c → Relaxed k (Only q c) t (set t c v)
+  relaxed-one-stores : c < length t → v < entry t c → Relaxed k (Only q c) t (set t c v)
   relaxed-one-stores inside less =
       record {
         lowers = rw sum (store {t = t} q c (refl, refl) inside (omega arith) done);
         holds = λ q′ c′ same within. rw (same .0, same .1, getD-set-same t c v 0 inside) (omega arith);
       }
 
-  pub relaxed-one-stays : entry t c ≤ v → Relaxed k (Only q c) t t
+  relaxed-one-stays : entry t c ≤ v → Relaxed k (Only q c) t t
   relaxed-one-stays enough = relaxed-already (λ q′ c′ same within. rw (same .0, same .1) (omega arith))
 
-  -- code without one: the lesser of the two is stored
+  -- the lesser of the two is stored
   pub relaxed-one : c < length t → Relaxed k (Only q c) t (set t c (min (entry t c) v))
   relaxed-one inside =
       elim (decLt v (entry t c)) [
         | yes less ↦ (let new : min (entry t c) v ≡ v = omega arith in rw new (relaxed-one-stores inside less))
         | no enough ↦ (let old : min (entry t c) v ≡ entry t c = omega arith in rw (old, set-getD t c 0) (relaxed-one-stays (omega arith)))
       ]
+
+-- the same for a rule with one premise
+pub relaxed-one-missing : {k : ℕ} (t : List ℕ) (c : ℕ) → c < length t → Relaxed k (Only (length t) c) t (set t c (min (entry t c) k))
+relaxed-one-missing t c inside = relaxed-one t (length t) c (omega (arith, List·getD-eq-default t 0 {n = length t} (le-refl _))) inside
 
 -- A loop, whose turn i uses Y i.
 module _ {k : ℕ} {Y : ℕ → Uses} where

@@ -1,5 +1,5 @@
 // Whether the inputs fit: the lengths, then the children, then the entries of the table. A test that looks at each entry once.
-use trees::bounds::all_at_most;
+use trees::entries::all_at_most;
 use words::Factors;
 ghost use Rattle.words.specs.Telling.{Tells};
 ghost use Rattle.rows.specs.Rows.{Room, Fits};

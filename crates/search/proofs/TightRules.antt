@@ -8,7 +8,7 @@ use lib.ListN.{length, take, List·getD-eq-default}
 use lib.Seq.{getD-take}
 use Rattle.trees.specs.Tree.{at}
 use Rattle.levels.specs.Levels.{entry}
-use Rattle.tables.specs.Rules.{place, Rule, B, C, D, E, F, GR, GS}
+use Rattle.tables.specs.Rules.{place, Rule, B, C, D, E, F, G}
 use Rattle.tables.specs.Levelling.{Made, whole, one, two}
 use Rattle.tables.proofs.Places.{place-inside, same-row, same-column}
 use Rattle.tables.proofs.Unique.{made-least}
@@ -107,30 +107,16 @@ module _ {count n : ℕ} {letters rests childrenR childrenS wholes target table 
   by-rule (F u v q hu hv hq) sum x y k e =
       moved hq k e
       (Two u v v q, by-two (TightTwo.F (record { node = hv; sum = omega (arith, sum, entry-at u q hu hq, entry-at u v hu hv, entry-at v q hv hq) })))
-  by-rule (GR a b (za, ha, la) (zb, hb, lb)) sum x y k e =
+  by-rule (G letter a b (za, ha, la) (zb, hb, lb)) sum x y k e =
       let ra = rest-inside a za ha in
       let rb = rest-inside b zb hb in
-      moved hb k e (
-        One (at rests a) (at rests b),
-        by-one (TightOne.G (record {
-          some = (za, zb);
-          letter = la ∙ sym lb;
-          rest = (refl, refl);
-          same = omega (arith, sum, past, entry-at a b ha hb, entry-at (at rests a) (at rests b) ra rb);
-        })),
-      )
-  by-rule (GS a b (za, ha, la) (zb, hb, lb)) sum x y k e =
-      let ra = rest-inside a za ha in
-      let rb = rest-inside b zb hb in
-      moved hb k e (
-        One (at rests a) (at rests b),
-        by-one (TightOne.G (record {
-          some = (za, zb);
-          letter = la ∙ sym lb;
-          rest = (refl, refl);
-          same = omega (arith, sum, past, entry-at a b ha hb, entry-at (at rests a) (at rests b) ra rb);
-        })),
-      )
+      moved hb k e
+      (One (at rests a) (at rests b), by-one (TightOne.G (record {
+        some = (za, zb);
+        letter = la ∙ sym lb;
+        rest = (refl, refl);
+        same = omega (arith, sum, past, entry-at a b ha hb, entry-at (at rests a) (at rests b) ra rb);
+      })))
 
   -- the last rule by which an entry is made is tight there: what its premises are made with is no less than their entries
   by-made : {c v : ℕ} → Made count letters rests wholes c v → entry front c ≡ v → v ≤ n → (x y : ℕ) → y < count → c ≡ place count x y → Found x y

@@ -11,9 +11,9 @@ use Rattle.products.proofs.States.{state-tail}
 use Rattle.products.proofs.Tables.{Closed}
 use Rattle.trees.specs.Tree.{at, wordAt, Tree}
 use Rattle.levels.specs.Levels.{entry}
-use Rattle.tables.specs.Rules.{place, Rule, IsR, IsS, B, C, D, E, F, GR, GS}
+use Rattle.tables.specs.Rules.{place, Rule, Is, B, C, D, E, F, G}
 use Rattle.tables.specs.Levelling.{Full}
-use Rattle.trees.proofs.Nodes.{node-number, node-number-at, state-number, begins-r, begins-s}
+use Rattle.trees.proofs.Nodes.{node-number, node-number-at, state-number, begins-letter}
 
 module _ {gens words : List Word} {letters rests childrenR childrenS wholes : List ℕ} (tree : Tree gens words letters rests childrenR childrenS wholes) where
   -- the node of a word
@@ -27,17 +27,13 @@ module _ {gens words : List Word} {letters rests childrenR childrenS wholes : Li
   number-of : (p : ℕ) (q : Word) → p < length words → wordAt words p ≡ q → p ≡ at-word q
   number-of p q inside same = sym (node-number-at tree p inside) ∙ ap at-word same
 
-  word-r : (x : Word) → State gens (R ∷ x) → IsR (length words) letters rests (at-word (R ∷ x)) × (at rests (at-word (R ∷ x)) ≡ at-word x)
-  word-r x s =
-      let (inside, same) = state-number tree (R ∷ x) s in
-      let (positive, spelled, rest) = begins-r tree (at-word (R ∷ x)) inside x same in
-      ((positive, inside, spelled), number-of (at rests (at-word (R ∷ x))) x (omega (arith, tree .shape .rest-earlier (at-word (R ∷ x)) positive inside)) rest)
-
-  word-s : (x : Word) → State gens (S ∷ x) → IsS (length words) letters rests (at-word (S ∷ x)) × (at rests (at-word (S ∷ x)) ≡ at-word x)
-  word-s x s =
-      let (inside, same) = state-number tree (S ∷ x) s in
-      let (positive, spelled, rest) = begins-s tree (at-word (S ∷ x)) inside x same in
-      ((positive, inside, spelled), number-of (at rests (at-word (S ∷ x))) x (omega (arith, tree .shape .rest-earlier (at-word (S ∷ x)) positive inside)) rest)
+  -- the node of a word with a letter in front, and its rest
+  word-front : (a : Letter) (x : Word) → State gens (a ∷ x)
+      → Is (length words) letters rests a (at-word (a ∷ x)) × (at rests (at-word (a ∷ x)) ≡ at-word x)
+  word-front a x s =
+      let (inside, same) = state-number tree (a ∷ x) s in
+      let (positive, spelled, rest) = begins-letter tree a (at-word (a ∷ x)) inside x same in
+      ((positive, inside, spelled), number-of (at rests (at-word (a ∷ x))) x (omega (arith, tree .shape .rest-earlier (at-word (a ∷ x)) positive inside)) rest)
 
   -- the place of a pair of words
   abbrev at-pair : Word → Word → ℕ
@@ -52,36 +48,35 @@ module _ {gens words : List Word} {letters rests childrenR childrenS wholes : Li
   -- ---- each rule on words is a rule at places
 
   rule-b : (x q : Word) → State gens (R ∷ x) → State gens (R ∷ q) → OnWords (at-pair x (R ∷ q)) past (at-pair (R ∷ x) q)
-  rule-b x q s t = let (a, ra) = word-r x s in let (b, rb) = word-r q t in rw (← ra, ← rb) (B _ _ a b)
+  rule-b x q s t = let (a, ra) = word-front R x s in let (b, rb) = word-front R q t in rw (← ra, ← rb) (B _ _ a b)
 
   rule-c : (x q : Word) → State gens (S ∷ S ∷ x) → State gens (S ∷ q) → OnWords (at-pair x (S ∷ q)) past (at-pair (S ∷ S ∷ x) q)
   rule-c x q s t =
-      let (a, ra) = word-s (S ∷ x) s in
-      let (m, rm) = word-s x (state-tail gens s) in
-      let (b, rb) = word-s q t in
+      let (a, ra) = word-front S (S ∷ x) s in
+      let (m, rm) = word-front S x (state-tail gens s) in
+      let (b, rb) = word-front S q t in
       rw (← rm, ← ra, ← rb) (C _ _ a (rw ra m) b)
 
   rule-d : (x q : Word) → State gens (S ∷ x) → State gens (S ∷ S ∷ q) → OnWords (at-pair x (S ∷ S ∷ q)) past (at-pair (S ∷ x) q)
   rule-d x q s t =
-      let (a, ra) = word-s x s in
-      let (b, rb) = word-s (S ∷ q) t in
-      let (m, rm) = word-s q (state-tail gens t) in
+      let (a, ra) = word-front S x s in
+      let (b, rb) = word-front S (S ∷ q) t in
+      let (m, rm) = word-front S q (state-tail gens t) in
       rw (← ra, ← rm, ← rb) (D _ _ a b (rw rb m))
 
   rule-e : (x v q : Word) → State gens (S ∷ x) → State gens (S ∷ v) → State gens (S ∷ q)
       → OnWords (at-pair x (S ∷ v)) (at-pair v (S ∷ q)) (at-pair (S ∷ x) q)
   rule-e x v q s t t′ =
-      let (a, ra) = word-s x s in
-      let (m, rm) = word-s v t in
-      let (b, rb) = word-s q t′ in
+      let (a, ra) = word-front S x s in
+      let (m, rm) = word-front S v t in
+      let (b, rb) = word-front S q t′ in
       rw (← ra, ← rm, ← rb) (E _ _ _ a m b)
 
   rule-f : (u v q : Word) → State gens u → State gens v → State gens q → OnWords (at-pair u v) (at-pair v q) (at-pair u q)
   rule-f u v q s t t′ = F _ _ _ (word-inside u s) (word-inside v t) (word-inside q t′)
 
   rule-g : (a : Letter) (x y : Word) → State gens (a ∷ x) → State gens (a ∷ y) → OnWords (at-pair x y) past (at-pair (a ∷ x) (a ∷ y))
-  rule-g R x y s t = let (a, ra) = word-r x s in let (b, rb) = word-r y t in rw (← ra, ← rb) (GR _ _ a b)
-  rule-g S x y s t = let (a, ra) = word-s x s in let (b, rb) = word-s y t in rw (← ra, ← rb) (GS _ _ a b)
+  rule-g l x y s t = let (a, ra) = word-front l x s in let (b, rb) = word-front l y t in rw (← ra, ← rb) (G l _ _ a b)
 
   module _ {n : ℕ} {table : List ℕ} (full : Full (length words) letters rests wholes n table) where
     -- the entry at the pair of two words

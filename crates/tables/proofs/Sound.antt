@@ -10,11 +10,11 @@ use Rattle.products.specs.Product.{measure}
 use Rattle.products.specs.State.{Leads}
 use Rattle.products.proofs.States.{A, step-leads, leads-append, leads-behind}
 use Rattle.trees.specs.Tree.{at, wordAt, Tree}
-use Rattle.tables.specs.Rules.{place, Rule, B, C, D, E, F, GR, GS}
+use Rattle.tables.specs.Rules.{place, Rule, B, C, D, E, F, G}
 use Rattle.tables.specs.Levelling.{Made, whole, one, two}
 use Rattle.tables.proofs.Places.{place-inside, same-row, same-column}
 use Rattle.tables.proofs.Forward.{rules-forward}
-use Rattle.trees.proofs.Nodes.{is-r, is-s}
+use Rattle.trees.proofs.Nodes.{is-letter}
 use Rattle.tables.proofs.Leading.{leads-as, leads-b, leads-c, leads-d, leads-e}
 
 module _ {gens words : List Word} {letters rests childrenR childrenS wholes : List ℕ} (tree : Tree gens words letters rests childrenR childrenS wholes) where
@@ -58,31 +58,27 @@ module _ {gens words : List Word} {letters rests childrenR childrenS wholes : Li
   made-one : {p q c v : ℕ} → Rule (length words) letters rests p q c → length words * length words ≤ q → LedAt p v → LedAt c v
   made-one (B a b (a0, a1, a2) (b0, b1, b2)) past led =
       led-at a1 (rest-inside b b0 b1)
-      (kept (λ r l. leads-as gens (sym (is-r tree a a0 a1 a2)) refl (leads-b gens (leads-as gens refl (is-r tree b b0 b1 b2) l)))
+      (kept (λ r l. leads-as gens (sym (is-letter tree R a a0 a1 a2)) refl (leads-b gens (leads-as gens refl (is-letter tree R b b0 b1 b2) l)))
       (led (at rests a) b (rest-inside a a0 a1) b1 refl))
   made-one (C a b (a0, a1, a2) (m0, m1, m2) (b0, b1, b2)) past led =
       led-at a1 (rest-inside b b0 b1)
       (kept
-      (λ r l. leads-as gens (sym (is-s tree a a0 a1 a2 ∙ ap (λ (u : Word). S ∷ u) (is-s tree (at rests a) m0 m1 m2))) refl
-      (leads-c gens (leads-as gens refl (is-s tree b b0 b1 b2) l)))
+      (λ r l. leads-as gens (sym (is-letter tree S a a0 a1 a2 ∙ ap (λ (u : Word). S ∷ u) (is-letter tree S (at rests a) m0 m1 m2))) refl
+      (leads-c gens (leads-as gens refl (is-letter tree S b b0 b1 b2) l)))
       (led (at rests (at rests a)) b (rest-inside (at rests a) m0 m1) b1 refl))
   made-one (D a b (a0, a1, a2) (b0, b1, b2) (m0, m1, m2)) past led =
       led-at a1 (rest-inside (at rests b) m0 m1)
       (kept
-      (λ r l. leads-as gens (sym (is-s tree a a0 a1 a2)) refl
-      (leads-d gens (leads-as gens refl (is-s tree b b0 b1 b2 ∙ ap (λ (u : Word). S ∷ u) (is-s tree (at rests b) m0 m1 m2)) l)))
+      (λ r l. leads-as gens (sym (is-letter tree S a a0 a1 a2)) refl
+      (leads-d gens (leads-as gens refl (is-letter tree S b b0 b1 b2 ∙ ap (λ (u : Word). S ∷ u) (is-letter tree S (at rests b) m0 m1 m2)) l)))
       (led (at rests a) b (rest-inside a a0 a1) b1 refl))
   made-one (E a v b r (m0, m1, m2) (b0, b1, b2)) past led =
       let inside : place (length words) (at rests v) b < length words * length words = place-inside (rest-inside v m0 m1) b1 in absurd (omega arith)
   made-one (F u v j r m s) past led =
       let inside : place (length words) v j < length words * length words = place-inside m s in absurd (omega arith)
-  made-one (GR a b (a0, a1, a2) (b0, b1, b2)) past led =
+  made-one (G x a b (a0, a1, a2) (b0, b1, b2)) past led =
       led-at a1 b1
-      (kept (λ r l. leads-as gens (sym (is-r tree a a0 a1 a2)) (sym (is-r tree b b0 b1 b2)) (leads-behind gens (R ∷ []) l))
-      (led (at rests a) (at rests b) (rest-inside a a0 a1) (rest-inside b b0 b1) refl))
-  made-one (GS a b (a0, a1, a2) (b0, b1, b2)) past led =
-      led-at a1 b1
-      (kept (λ r l. leads-as gens (sym (is-s tree a a0 a1 a2)) (sym (is-s tree b b0 b1 b2)) (leads-behind gens (S ∷ []) l))
+      (kept (λ r l. leads-as gens (sym (is-letter tree x a a0 a1 a2)) (sym (is-letter tree x b b0 b1 b2)) (leads-behind gens (x ∷ []) l))
       (led (at rests a) (at rests b) (rest-inside a a0 a1) (rest-inside b b0 b1) refl))
 
   made-two : {p q c v v′ : ℕ} → Rule (length words) letters rests p q c → q < length words * length words → LedAt p v → LedAt q v′ → LedAt c (v + v′)
@@ -92,13 +88,12 @@ module _ {gens words : List Word} {letters rests childrenR childrenS wholes : Li
   made-two (E a v b (a0, a1, a2) (v0, v1, v2) (b0, b1, b2)) inside led led′ =
       led-at a1 (rest-inside b b0 b1)
       (joined
-      (λ r s l m. leads-as gens (sym (is-s tree a a0 a1 a2)) refl
-      (leads-e gens (leads-as gens refl (is-s tree v v0 v1 v2) l) (leads-as gens refl (is-s tree b b0 b1 b2) m)))
+      (λ r s l m. leads-as gens (sym (is-letter tree S a a0 a1 a2)) refl
+      (leads-e gens (leads-as gens refl (is-letter tree S v v0 v1 v2) l) (leads-as gens refl (is-letter tree S b b0 b1 b2) m)))
       (led (at rests a) v (rest-inside a a0 a1) v1 refl) (led′ (at rests v) b (rest-inside v v0 v1) b1 refl))
   made-two (F u v j r m s) inside led led′ =
       led-at r s (joined (λ a b l l′. leads-append gens l l′) (led u v r m refl) (led′ v j m s refl))
-  made-two (GR a b r s) inside led led′ = absurd (omega arith)
-  made-two (GS a b r s) inside led led′ = absurd (omega arith)
+  made-two (G x a b r s) inside led led′ = absurd (omega arith)
 
   made-inside : {z v : ℕ} → Made (length words) letters rests wholes z v → z < length words * length words
   made-inside (whole j below) = place-inside {x = 0} (tree .shape .some) (tree .shape .whole-inside j below)

@@ -36,7 +36,7 @@ module _ {Rule : Rules} {k : ℕ} where
   passes-length (visit run (relaxed level stores)) = lowers-length (stores .lowers) ∙ passes-length run
   passes-length (visit run (skipped other same)) = ap length same ∙ passes-length run
 
-  pub passes-ready : {w z : ℕ} {t t′ : List ℕ} → Ready w k t → Passes Rule k z t t′ → Ready w k t′
+  pub passes-ready : {count z : ℕ} {t t′ : List ℕ} → Ready count k t → Passes Rule k z t t′ → Ready count k t′
   passes-ready ready run =
       record { few = ready .few; positive = ready .positive; small = ready .small; counts = passes-counts (ready .counts) (ready .positive) run }
 

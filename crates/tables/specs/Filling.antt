@@ -4,20 +4,21 @@ use mathlib.Core.Path.{_≡_}
 use mathlib.Core.List.{List}
 use Prim.Native.Nat.{ℕ, _*_, _≤_, _<_}
 use lib.ListN.{length, take, drop}
+use Rattle.limits.specs.Limits.{mostFactors}
 use Rattle.words.specs.Word.{Word}
 use Rattle.products.specs.State.{AllNormal, LeastLead}
-use Rattle.trees.specs.Tree.{at, wordAt, Shape, Tree}
+use Rattle.trees.specs.Tree.{at, mostOfEntry, wordAt, Shape, Tree}
 use Rattle.tables.specs.Rules.{place}
 use Rattle.tables.specs.Nodes.{Linked}
 use Rattle.tables.specs.Levelling.{Full}
 
--- Indices that can be followed, children that agree with the letters and rests, as those of every tree do, a bound of at most 1,000, and room
+-- Indices that can be followed, children that agree with the letters and rests, as those of every tree do, a bound that question 13 lets pass, and room
 -- for a row and a column for each node.
 pub record Fits (count : ℕ) (letters rests childrenR childrenS wholes : List ℕ) (n : ℕ) (table : List ℕ) : Type 0 where
   pub shape : Shape count letters rests childrenR childrenS wholes
   pub linked : Linked count letters rests childrenR childrenS
-  pub few : count ≤ 65535
-  pub bound : n ≤ 1000
+  pub few : count ≤ mostOfEntry
+  pub bound : n ≤ mostFactors
   pub room : count * count ≤ length table
 
 -- The first count × count entries hold, for each pair of nodes, the least number that the rules make, or n + 1: this fixes them

@@ -36,24 +36,24 @@ pub record NextLevel (n : ℕ) (t : List ℕ) (k next : ℕ) : Type 0 where
   pub bounded : next ≤ n + 1
   pub none-between : NoneBetween (length t) t k next
 
-module _ (w : ℕ) (wholes : List ℕ) where
+module _ (count : ℕ) (wholes : List ℕ) where
   -- rule A: each generator leads from nothing to its own node
   abbrev pub StartTurn : ℕ → ℕ → ℕ → Type 0
-  StartTurn j = Only (w * w) (place w 0 (at wholes j))
+  StartTurn j = Only (count * count) (place count 0 (at wholes j))
 
   abbrev pub Starts : ℕ → ℕ → Type 0
   Starts = Upto StartTurn (length wholes)
 
-module _ (w : ℕ) (letters rests wholes : List ℕ) where
+module _ (count : ℕ) (letters rests wholes : List ℕ) where
   -- v is made at the place z by rule A and the rules B to G
   pub data Made : ℕ → ℕ → Type 0 where
-    whole : (j : ℕ) → j < length wholes → Made (place w 0 (at wholes j)) 1
-    one : {p q c v : ℕ} → Rule w letters rests p q c → w * w ≤ q → Made p v → Made c v
-    two : {p q c v v′ : ℕ} → Rule w letters rests p q c → Made p v → Made q v′ → Made c (v + v′)
+    whole : (j : ℕ) → j < length wholes → Made (place count 0 (at wholes j)) 1
+    one : {p q c v : ℕ} → Rule count letters rests p q c → count * count ≤ q → Made p v → Made c v
+    two : {p q c v v′ : ℕ} → Rule count letters rests p q c → Made p v → Made q v′ → Made c (v + v′)
 
   -- The table is full: its entries are made by the rules, and no rule makes less, up to n.
   pub record Full (n : ℕ) (t : List ℕ) : Type 0 where
-    pub counts : Counts n (w * w) t
-    pub starts : (j : ℕ) → j < length wholes → entry t (place w 0 (at wholes j)) ≤ 1
-    pub closed : Closed (Rule w letters rests) n t
+    pub counts : Counts n (count * count) t
+    pub starts : (j : ℕ) → j < length wholes → entry t (place count 0 (at wholes j)) ≤ 1
+    pub closed : Closed (Rule count letters rests) n t
     pub made : Sound Made n t

@@ -3,12 +3,13 @@ use mathlib.Core.Path.{_≡_}
 use mathlib.Core.List.{List}
 use Prim.Native.Nat.{ℕ, _*_, _≤_, _<_}
 use lib.ListN.{length}
-use Rattle.trees.specs.Tree.{at}
+use Rattle.limits.specs.Limits.{mostFactors}
+use Rattle.trees.specs.Tree.{at, mostOfEntry}
 
--- r is the one number below w of which P is true, and is not below w where there is none
-pub record Finds (w : ℕ) (P : ℕ → Type 0) (r : ℕ) : Type 0 where
-  pub found : r < w → P r
-  pub only : (p : ℕ) → p < w → P p → p ≡ r
+-- r is the one number below `count` of which P is true, and is not below `count` where there is none
+pub record Finds (count : ℕ) (P : ℕ → Type 0) (r : ℕ) : Type 0 where
+  pub found : r < count → P r
+  pub only : (p : ℕ) → p < count → P p → p ≡ r
 
 -- each number among the first `many` is below the bound
 abbrev pub AllBelow : List ℕ → ℕ → ℕ → Type 0
@@ -16,30 +17,30 @@ AllBelow nodes many bound = (p : ℕ) → p < many → at nodes p < bound
 
 -- each node but the first is behind its rest
 abbrev pub RestsEarlier : List ℕ → ℕ → Type 0
-RestsEarlier rests w = (p : ℕ) → 0 < p → p < w → at rests p < p
+RestsEarlier rests count = (p : ℕ) → 0 < p → p < count → at rests p < p
 
 -- What makes all lengths and numbers fit, before any number of a node is looked at.
-pub record Room (w lettersLength restsLength childrenRLength childrenSLength n tableLength : ℕ) : Type 0 where
-  pub some : 1 ≤ w
-  pub few : w ≤ 65535
-  pub letters : w ≤ lettersLength
-  pub rests : w ≤ restsLength
-  pub childrenR : w ≤ childrenRLength
-  pub childrenS : w ≤ childrenSLength
-  pub bound : n ≤ 1000
-  pub table : w * w ≤ tableLength
+pub record Room (count lettersLength restsLength childrenRLength childrenSLength n tableLength : ℕ) : Type 0 where
+  pub some : 1 ≤ count
+  pub few : count ≤ mostOfEntry
+  pub letters : count ≤ lettersLength
+  pub rests : count ≤ restsLength
+  pub childrenR : count ≤ childrenRLength
+  pub childrenS : count ≤ childrenSLength
+  pub bound : n ≤ mostFactors
+  pub table : count * count ≤ tableLength
 
 -- c is noted as a child of p; 0 stands for none
 abbrev pub Noted : List ℕ → ℕ → ℕ → ℕ → Type 0
-Noted children w p c = (p < w) × (0 < c) × (at children p ≡ c)
+Noted children count p c = (p < count) × (0 < c) × (at children p ≡ c)
 
 -- Letters, rests and the children by one letter whose indices can be followed.
-pub record Followed (w : ℕ) (letters rests children : List ℕ) : Type 0 where
-  pub room-letters : w ≤ length letters
-  pub room-rests : w ≤ length rests
-  pub room-children : w ≤ length children
-  pub rest-earlier : RestsEarlier rests w
-  pub inside : AllBelow children w w
+pub record Followed (count : ℕ) (letters rests children : List ℕ) : Type 0 where
+  pub room-letters : count ≤ length letters
+  pub room-rests : count ≤ length rests
+  pub room-children : count ≤ length children
+  pub rest-earlier : RestsEarlier rests count
+  pub inside : AllBelow children count count
 
 module _ (letters rests : List ℕ) (letter : ℕ) (children : List ℕ) where
   -- p's child has the letter, and the rest p
@@ -56,23 +57,23 @@ module _ (letters rests : List ℕ) (letter : ℕ) (children : List ℕ) where
     pub rest : RestAgrees p
 
   abbrev pub Agree : ℕ → Type 0
-  Agree w = (p : ℕ) → p < w → Agrees p
+  Agree count = (p : ℕ) → p < count → Agrees p
 
 -- the word of p begins with the letter; node 0 has none, whatever stands there
 abbrev pub Begins : List ℕ → ℕ → ℕ → Type 0
 Begins letters letter p = (0 < p) × (at letters p ≡ letter)
 
-module _ (w : ℕ) (letters rests : List ℕ) where
+module _ (count : ℕ) (letters rests : List ℕ) where
   -- the word of the node a is the letter in front of the word of the node p
   abbrev pub Front : ℕ → ℕ → ℕ → Type 0
-  Front letter a p = (0 < a) × (a < w) × (at letters a ≡ letter) × (at rests a ≡ p)
+  Front letter a p = (0 < a) × (a < count) × (at letters a ≡ letter) × (at rests a ≡ p)
 
   -- the children by one letter: they can be followed, and agree with the letters and rests
-  pub record Children (letter : ℕ) (children : List ℕ) : Type 0 where
-    pub followed : Followed w letters rests children
-    pub agree : Agree letters rests letter children w
+  pub record LinkedBy (letter : ℕ) (children : List ℕ) : Type 0 where
+    pub followed : Followed count letters rests children
+    pub agree : Agree letters rests letter children count
 
   -- The children by R and by S. Every tree has this.
   pub record Linked (childrenR childrenS : List ℕ) : Type 0 where
-    pub r : Children 82 childrenR
-    pub s : Children 83 childrenS
+    pub r : LinkedBy 82 childrenR
+    pub s : LinkedBy 83 childrenS

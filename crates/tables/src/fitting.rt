@@ -1,5 +1,6 @@
 // Whether the inputs fit: the lengths, then the numbers of nodes, then whether the children agree with the letters and rests. A linear test.
-use crate::nodes::node;
+use trees::entries;
+use trees::entries::entry;
 use words::Factors;
 ghost use Prim.Native.Nat.{_≤_, _<_};
 ghost use lib.ListN.{length};
@@ -15,7 +16,7 @@ fn all_below(nodes: &[u16], many: usize, bound: usize) -> bool
 {
     let mut p = 0;
     while p < many {
-        if bound <= node(nodes, p) {
+        if bound <= entry(nodes, p) {
             return false;
         }
         p += 1;
@@ -24,14 +25,14 @@ fn all_below(nodes: &[u16], many: usize, bound: usize) -> bool
 }
 
 // Whether each node but the first is behind its rest.
-fn rests_earlier(rests: &[u16], width: usize) -> bool
-    requires { ⌜ 1 ≤ width ⌝ }
-    requires { ⌜ width ≤ length (now rests) ⌝ }
-    ensures { λ r. ⌜ Tells r (RestsEarlier (now (rests .entry)) width) ⌝ }
+fn rests_earlier(rests: &[u16], count: usize) -> bool
+    requires { ⌜ 1 ≤ count ⌝ }
+    requires { ⌜ count ≤ length (now rests) ⌝ }
+    ensures { λ r. ⌜ Tells r (RestsEarlier (now (rests .entry)) count) ⌝ }
 {
     let mut p = 1;
-    while p < width {
-        if p <= node(rests, p) {
+    while p < count {
+        if p <= entry(rests, p) {
             return false;
         }
         p += 1;
@@ -40,7 +41,7 @@ fn rests_earlier(rests: &[u16], width: usize) -> bool
 }
 
 fn has_room(
-    width: usize,
+    count: usize,
     letters: usize,
     rests: usize,
     children_r: usize,
@@ -48,30 +49,30 @@ fn has_room(
     n: Factors,
     table: usize,
 ) -> bool
-    ensures { λ r. ⌜ Tells r (Room width letters rests «children_r» «children_s» (n .0) table) ⌝ }
+    ensures { λ r. ⌜ Tells r (Room count letters rests «children_r» «children_s» (n .0) table) ⌝ }
 {
-    if width < 1 {
+    if count < 1 {
         return false;
     }
-    if 65535 < width {
+    if entries::MOST < count {
         return false;
     }
-    if letters < width {
+    if letters < count {
         return false;
     }
-    if rests < width {
+    if rests < count {
         return false;
     }
-    if children_r < width {
+    if children_r < count {
         return false;
     }
-    if children_s < width {
+    if children_s < count {
         return false;
     }
-    if 1000 < n.0 {
+    if limits::BOUND < n.0 {
         return false;
     }
-    if table < width * width {
+    if table < count * count {
         return false;
     }
     true
@@ -79,24 +80,25 @@ fn has_room(
 
 // Whether all numbers of nodes can be followed.
 fn has_shape(
-    width: usize,
+    count: usize,
     letters: &[u8],
     rests: &[u16],
     children_r: &[u16],
     children_s: &[u16],
     wholes: &[u16],
 ) -> bool
-    requires { ⌜ 1 ≤ width ⌝ }
-    requires { ⌜ width ≤ length (now letters) ⌝ }
-    requires { ⌜ width ≤ length (now rests) ⌝ }
-    requires { ⌜ width ≤ length (now «children_r») ⌝ }
-    requires { ⌜ width ≤ length (now «children_s») ⌝ }
-    ensures { λ r. ⌜ Tells r (Shape width (now (letters .entry)) (now (rests .entry)) (now («children_r» .entry)) (now («children_s» .entry)) (now (wholes .entry))) ⌝ }
+    requires { ⌜ 1 ≤ count ⌝ }
+    requires { ⌜ count ≤ length (now letters) ⌝ }
+    requires { ⌜ count ≤ length (now rests) ⌝ }
+    requires { ⌜ count ≤ length (now «children_r») ⌝ }
+    requires { ⌜ count ≤ length (now «children_s») ⌝ }
+    ensures { λ r. ⌜ Tells r
+        (Shape count (now (letters .entry)) (now (rests .entry)) (now («children_r» .entry)) (now («children_s» .entry)) (now (wholes .entry))) ⌝ }
 {
-    if rests_earlier(rests, width) {
-        if all_below(children_r, width, width) {
-            if all_below(children_s, width, width) {
-                return all_below(wholes, wholes.len(), width);
+    if rests_earlier(rests, count) {
+        if all_below(children_r, count, count) {
+            if all_below(children_s, count, count) {
+                return all_below(wholes, wholes.len(), count);
             }
         }
     }
@@ -109,19 +111,19 @@ fn child_agrees(
     rests: &[u16],
     letter: u8,
     children: &[u16],
-    width: usize,
+    count: usize,
     p: usize,
 ) -> bool
-    requires { ⌜ p < width ⌝ }
-    requires { ⌜ Followed width (now letters) (now rests) (now children) ⌝ }
+    requires { ⌜ p < count ⌝ }
+    requires { ⌜ Followed count (now letters) (now rests) (now children) ⌝ }
     ensures { λ r. ⌜ Tells r (ChildAgrees (now (letters .entry)) (now (rests .entry)) letter (now (children .entry)) p) ⌝ }
 {
-    let c = node(children, p);
+    let c = entry(children, p);
     if c == 0 {
         return true;
     }
     if letters[c] == letter {
-        return node(rests, c) == p;
+        return entry(rests, c) == p;
     }
     false
 }
@@ -132,18 +134,18 @@ fn rest_agrees(
     rests: &[u16],
     letter: u8,
     children: &[u16],
-    width: usize,
+    count: usize,
     p: usize,
 ) -> bool
-    requires { ⌜ p < width ⌝ }
-    requires { ⌜ Followed width (now letters) (now rests) (now children) ⌝ }
+    requires { ⌜ p < count ⌝ }
+    requires { ⌜ Followed count (now letters) (now rests) (now children) ⌝ }
     ensures { λ r. ⌜ Tells r (RestAgrees (now (letters .entry)) (now (rests .entry)) letter (now (children .entry)) p) ⌝ }
 {
     if p == 0 {
         return true;
     }
     if letters[p] == letter {
-        return node(children, node(rests, p)) == p;
+        return entry(children, entry(rests, p)) == p;
     }
     true
 }
@@ -153,26 +155,26 @@ fn agrees(
     rests: &[u16],
     letter: u8,
     children: &[u16],
-    width: usize,
+    count: usize,
     p: usize,
 ) -> bool
-    requires { ⌜ p < width ⌝ }
-    requires { ⌜ Followed width (now letters) (now rests) (now children) ⌝ }
+    requires { ⌜ p < count ⌝ }
+    requires { ⌜ Followed count (now letters) (now rests) (now children) ⌝ }
     ensures { λ r. ⌜ Tells r (Agrees (now (letters .entry)) (now (rests .entry)) letter (now (children .entry)) p) ⌝ }
 {
-    if child_agrees(letters, rests, letter, children, width, p) {
-        return rest_agrees(letters, rests, letter, children, width, p);
+    if child_agrees(letters, rests, letter, children, count, p) {
+        return rest_agrees(letters, rests, letter, children, count, p);
     }
     false
 }
 
-fn agree(letters: &[u8], rests: &[u16], letter: u8, children: &[u16], width: usize) -> bool
-    requires { ⌜ Followed width (now letters) (now rests) (now children) ⌝ }
-    ensures { λ r. ⌜ Tells r (Agree (now (letters .entry)) (now (rests .entry)) letter (now (children .entry)) width) ⌝ }
+fn agree(letters: &[u8], rests: &[u16], letter: u8, children: &[u16], count: usize) -> bool
+    requires { ⌜ Followed count (now letters) (now rests) (now children) ⌝ }
+    ensures { λ r. ⌜ Tells r (Agree (now (letters .entry)) (now (rests .entry)) letter (now (children .entry)) count) ⌝ }
 {
     let mut p = 0;
-    while p < width {
-        if agrees(letters, rests, letter, children, width, p) {
+    while p < count {
+        if agrees(letters, rests, letter, children, count, p) {
             p += 1;
         } else {
             return false;
@@ -183,24 +185,24 @@ fn agree(letters: &[u8], rests: &[u16], letter: u8, children: &[u16], width: usi
 
 // Whether the children by both letters agree with the letters and rests. Those of every tree do.
 fn linked(
-    width: usize,
+    count: usize,
     letters: &[u8],
     rests: &[u16],
     children_r: &[u16],
     children_s: &[u16],
 ) -> bool
-    requires { ⌜ Followed width (now letters) (now rests) (now «children_r») ⌝ }
-    requires { ⌜ Followed width (now letters) (now rests) (now «children_s») ⌝ }
-    ensures { λ r. ⌜ Tells r (Linked width (now (letters .entry)) (now (rests .entry)) (now («children_r» .entry)) (now («children_s» .entry))) ⌝ }
+    requires { ⌜ Followed count (now letters) (now rests) (now «children_r») ⌝ }
+    requires { ⌜ Followed count (now letters) (now rests) (now «children_s») ⌝ }
+    ensures { λ r. ⌜ Tells r (Linked count (now (letters .entry)) (now (rests .entry)) (now («children_r» .entry)) (now («children_s» .entry))) ⌝ }
 {
-    if agree(letters, rests, 82, children_r, width) {
-        return agree(letters, rests, 83, children_s, width);
+    if agree(letters, rests, 82, children_r, count) {
+        return agree(letters, rests, 83, children_s, count);
     }
     false
 }
 
 pub(crate) fn fits(
-    width: usize,
+    count: usize,
     letters: &[u8],
     rests: &[u16],
     children_r: &[u16],
@@ -209,10 +211,12 @@ pub(crate) fn fits(
     n: Factors,
     table: &[u16],
 ) -> bool
-    ensures { λ r. ⌜ Tells r (Fits width (now (letters .entry)) (now (rests .entry)) (now («children_r» .entry)) (now («children_s» .entry)) (now (wholes .entry)) (n .0) (now (table .entry))) ⌝ }
+    ensures { λ r. ⌜ Tells r
+        (Fits count (now (letters .entry)) (now (rests .entry)) (now («children_r» .entry)) (now («children_s» .entry))
+        (now (wholes .entry)) (n .0) (now (table .entry))) ⌝ }
 {
     if has_room(
-        width,
+        count,
         letters.len(),
         rests.len(),
         children_r.len(),
@@ -220,8 +224,8 @@ pub(crate) fn fits(
         n,
         table.len(),
     ) {
-        if has_shape(width, letters, rests, children_r, children_s, wholes) {
-            return linked(width, letters, rests, children_r, children_s);
+        if has_shape(count, letters, rests, children_r, children_s, wholes) {
+            return linked(count, letters, rests, children_r, children_s);
         }
     }
     false

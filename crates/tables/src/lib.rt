@@ -23,7 +23,8 @@ pub fn fill(
     n: Factors,
     table: &mut [u16],
 ) -> bool
-    ensures { λ r. ⌜ Fills count (now (letters .entry)) (now (rests .entry)) (now («children_r» .entry)) (now («children_s» .entry)) (now (wholes .entry)) (n .0) (now (table .entry)) r (now (table .exit)) ⌝ }
+    ensures { λ r. ⌜ Fills count (now (letters .entry)) (now (rests .entry)) (now («children_r» .entry)) (now («children_s» .entry))
+        (now (wholes .entry)) (n .0) (now (table .entry)) r (now (table .exit)) ⌝ }
 {
     if fits(
         count,

@@ -1,32 +1,24 @@
-// Nodes of the tree and pairs of them. A node is a number below `width`; any other number stands for no node.
-use words::widening::wide;
+// Nodes of the tree and pairs of them. A node is a number below `count`; any other number stands for no node.
+use trees::entries::entry;
 ghost use mathlib.Core.Path.{_≡_};
 ghost use Prim.Native.Nat.{_+_, _*_, _≤_, _<_};
 ghost use lib.ListN.{length};
 ghost use Rattle.words.specs.Telling.{Tells};
-ghost use Rattle.trees.specs.Tree.{at};
+ghost use Rattle.trees.specs.Tree.{mostOfEntry};
 ghost use Rattle.tables.specs.Rules.{place};
 ghost use Rattle.tables.specs.Nodes.{Finds, Noted, Begins, Front};
 
-// The number at p of a slice of node numbers.
-pub(crate) fn node(nodes: &[u16], p: usize) -> usize
-    requires { ⌜ p < length (now nodes) ⌝ }
-    ensures { λ r. ⌜ r ≡ at (now (nodes .entry)) p ⌝ }
-{
-    wide(nodes[p])
-}
-
 // The child of p, where it has one.
-pub(crate) fn child(children: &[u16], width: usize, p: usize) -> usize
-    requires { ⌜ width ≤ length (now children) ⌝ }
-    ensures { λ r. ⌜ Finds width (Noted (now (children .entry)) width p) r ⌝ }
+pub(crate) fn child(children: &[u16], count: usize, p: usize) -> usize
+    requires { ⌜ count ≤ length (now children) ⌝ }
+    ensures { λ r. ⌜ Finds count (Noted (now (children .entry)) count p) r ⌝ }
 {
-    if width <= p {
-        return width;
+    if count <= p {
+        return count;
     }
-    let c = node(children, p);
+    let c = entry(children, p);
     if c == 0 {
-        return width;
+        return count;
     }
     c
 }
@@ -43,28 +35,28 @@ pub(crate) fn begins(letters: &[u8], letter: u8, p: usize) -> bool
 }
 
 // The rest of p, where p's word begins with the letter.
-pub(crate) fn tail(letters: &[u8], rests: &[u16], width: usize, letter: u8, p: usize) -> usize
-    requires { ⌜ width ≤ length (now letters) ⌝ }
-    requires { ⌜ width ≤ length (now rests) ⌝ }
-    ensures { λ r. ⌜ Finds width (Front width (now (letters .entry)) (now (rests .entry)) letter p) r ⌝ }
+pub(crate) fn rest_after(letters: &[u8], rests: &[u16], count: usize, letter: u8, p: usize) -> usize
+    requires { ⌜ count ≤ length (now letters) ⌝ }
+    requires { ⌜ count ≤ length (now rests) ⌝ }
+    ensures { λ r. ⌜ Finds count (Front count (now (letters .entry)) (now (rests .entry)) letter p) r ⌝ }
 {
-    if width <= p {
-        return width;
+    if count <= p {
+        return count;
     }
     if begins(letters, letter, p) {
-        return node(rests, p);
+        return entry(rests, p);
     }
-    width
+    count
 }
 
 // The place of a pair in the table.
-pub(crate) fn cell(width: usize, row: usize, column: usize) -> usize
-    requires { ⌜ width ≤ 65535 ⌝ }
-    requires { ⌜ row < width ⌝ }
-    requires { ⌜ column < width ⌝ }
-    ensures { λ r. ⌜ (r ≡ place width row column) × (r < width * width) ⌝ }
+pub(crate) fn place_of(count: usize, row: usize, column: usize) -> usize
+    requires { ⌜ count ≤ mostOfEntry ⌝ }
+    requires { ⌜ row < count ⌝ }
+    requires { ⌜ column < count ⌝ }
+    ensures { λ r. ⌜ (r ≡ place count row column) × (r < count * count) ⌝ }
 {
-    row * width + column
+    row * count + column
 }
 
 pub(crate) struct Pair {
@@ -73,14 +65,14 @@ pub(crate) struct Pair {
 }
 
 // The pair at the next place. Behind the last pair of all comes the first of the row one past the end.
-pub(crate) fn next_pair(pair: Pair, width: usize) -> Pair
-    requires { ⌜ width ≤ 65535 ⌝ }
-    requires { ⌜ pair .row < width ⌝ }
-    requires { ⌜ pair .column < width ⌝ }
-    ensures { λ r. ⌜ (place width (r .row) (r .column) ≡ place width (pair .row) (pair .column) + 1) × (r .column < width) ⌝ }
+pub(crate) fn next_pair(pair: Pair, count: usize) -> Pair
+    requires { ⌜ count ≤ mostOfEntry ⌝ }
+    requires { ⌜ pair .row < count ⌝ }
+    requires { ⌜ pair .column < count ⌝ }
+    ensures { λ r. ⌜ (place count (r .row) (r .column) ≡ place count (pair .row) (pair .column) + 1) × (r .column < count) ⌝ }
 {
     let column = pair.column + 1;
-    if column < width {
+    if column < count {
         return Pair {
             row: pair.row,
             column,

@@ -1,18 +1,20 @@
 // The table is filled level by level: a pass at level k relaxes the rules of each pair whose entry is k, from the first place to the last.
 // One pass a level is enough: a rule with two premises leads above k, and one with a single premise to a larger row, which is yet to come.
 use crate::nodes::Pair;
-use crate::nodes::cell;
 use crate::nodes::next_pair;
-use crate::nodes::node;
-use crate::relaxing::lesser;
+use crate::nodes::place_of;
 use crate::relaxing::relax;
 use crate::rules::relax_pair;
+use trees::entries::entry;
+use trees::entries::lesser;
 use words::Factors;
 ghost use mathlib.Core.Bool.{true};
 ghost use mathlib.Core.Path.{_≡_};
 ghost use Prim.Native.Nat.{_+_, _*_, _-_, _≤_, _<_};
 ghost use lib.ListN.{length, replicate};
+ghost use Rattle.limits.specs.Limits.{mostFactors};
 ghost use Rattle.words.specs.Telling.{Tells};
+ghost use Rattle.trees.specs.Tree.{mostOfEntry};
 ghost use Rattle.levels.specs.Levels.{Relaxed};
 ghost use Rattle.tables.specs.Rules.{place, Rule};
 ghost use Rattle.tables.specs.Nodes.{Linked, AllBelow};
@@ -22,26 +24,26 @@ ghost use Rattle.tables.specs.Levelling.{Visited, Passes, Without, Sough
 // The pair's rules are relaxed where its entry is the level.
 fn visit(
     table: &mut [u16],
-    width: usize,
+    count: usize,
     letters: &[u8],
     rests: &[u16],
     children_r: &[u16],
     children_s: &[u16],
     x: usize,
     y: usize,
-    k: u16,
+    k: Factors,
 )
-    requires { ⌜ Ready width k (now table) ⌝ }
-    requires { ⌜ Linked width (now letters) (now rests) (now «children_r») (now «children_s») ⌝ }
-    requires { ⌜ x < width ⌝ }
-    requires { ⌜ y < width ⌝ }
-    ensures { λ _. ⌜ Visited (Rule width (now (letters .entry)) (now (rests .entry))) k (place width x y) (now (table .entry)) (now (table .exit)) ⌝ }
+    requires { ⌜ Ready count (k .0) (now table) ⌝ }
+    requires { ⌜ Linked count (now letters) (now rests) (now «children_r») (now «children_s») ⌝ }
+    requires { ⌜ x < count ⌝ }
+    requires { ⌜ y < count ⌝ }
+    ensures { λ _. ⌜ Visited (Rule count (now (letters .entry)) (now (rests .entry))) (k .0) (place count x y) (now (table .entry)) (now (table .exit)) ⌝ }
 {
-    let z = cell(width, x, y);
-    if table[z] == k {
+    let z = place_of(count, x, y);
+    if table[z] == k.0 {
         relax_pair(
             table,
-            width,
+            count,
             letters,
             rests,
             children_r,
@@ -55,11 +57,11 @@ fn visit(
 
 // Whether there was no entry from `low` to `high` so far, and this is not one either. Where `low` is `high`, two tests one inside the other become one
 // comparison; with a return for each they did not.
-fn absent_too(so_far: bool, entry: u16, low: u16, high: u16) -> bool
-    ensures { λ r. ⌜ Tells r ((«so_far» ≡ true) × (low ≤ entry → entry ≤ high → ⊥)) ⌝ }
+fn absent_too(so_far: bool, entry: u16, low: Factors, high: Factors) -> bool
+    ensures { λ r. ⌜ Tells r ((«so_far» ≡ true) × (low .0 ≤ entry → entry ≤ high .0 → ⊥)) ⌝ }
 {
-    if low <= entry {
-        if entry <= high {
+    if low.0 <= entry {
+        if entry <= high.0 {
             return false;
         }
     }
@@ -67,10 +69,10 @@ fn absent_too(so_far: bool, entry: u16, low: u16, high: u16) -> bool
 }
 
 // Whether no place from `from` up to `end` has an entry from `low` to `high`. No early end, so that the loop runs on many entries at once.
-fn absent(table: &[u16], from: usize, end: usize, low: u16, high: u16) -> bool
+fn absent(table: &[u16], from: usize, end: usize, low: Factors, high: Factors) -> bool
     requires { ⌜ from ≤ end ⌝ }
     requires { ⌜ end ≤ length (now table) ⌝ }
-    ensures { λ r. ⌜ Tells r (Without low high (now (table .entry)) from end) ⌝ }
+    ensures { λ r. ⌜ Tells r (Without (low .0) (high .0) (now (table .entry)) from end) ⌝ }
 {
     let mut none = true;
     let mut p = from;
@@ -82,14 +84,14 @@ fn absent(table: &[u16], from: usize, end: usize, low: u16, high: u16) -> bool
 }
 
 // The first place from `from` on whose entry is k, or `last` where none before it has that entry.
-fn find(table: &[u16], from: usize, last: usize, k: u16) -> usize
+fn find(table: &[u16], from: usize, last: usize, k: Factors) -> usize
     requires { ⌜ from ≤ last ⌝ }
     requires { ⌜ last < length (now table) ⌝ }
-    ensures { λ r. ⌜ Sought k (now (table .entry)) from last r ⌝ }
+    ensures { λ r. ⌜ Sought (k .0) (now (table .entry)) from last r ⌝ }
 {
     let mut p = from;
     while p < last {
-        if table[p] == k {
+        if table[p] == k.0 {
             return p;
         }
         p += 1;
@@ -98,47 +100,48 @@ fn find(table: &[u16], from: usize, last: usize, k: u16) -> usize
 }
 
 // The first column from y on in row x where the entry is k, or the last column. Most rows have no such entry, which `absent` tells sooner.
-fn seek(table: &[u16], width: usize, x: usize, y: usize, k: u16) -> usize
-    requires { ⌜ Ready width k (now table) ⌝ }
-    requires { ⌜ x < width ⌝ }
-    requires { ⌜ y < width ⌝ }
-    ensures { λ r. ⌜ Sought k (now (table .entry)) (place width x y) (place width x (width - 1)) (place width x r) ⌝ }
+fn seek(table: &[u16], count: usize, x: usize, y: usize, k: Factors) -> usize
+    requires { ⌜ Ready count (k .0) (now table) ⌝ }
+    requires { ⌜ x < count ⌝ }
+    requires { ⌜ y < count ⌝ }
+    ensures { λ r. ⌜ Sought (k .0) (now (table .entry)) (place count x y) (place count x (count - 1)) (place count x r) ⌝ }
 {
-    let row = cell(width, x, 0);
+    let row = place_of(count, x, 0);
     if y == 0 {
-        if absent(table, row, row + width, k, k) {
-            return width - 1;
+        if absent(table, row, row + count, k, k) {
+            return count - 1;
         }
     }
-    find(table, row + y, row + width - 1, k) - row
+    find(table, row + y, row + count - 1, k) - row
 }
 
 // One pass at the level k. Where no entry lies above k it would lower none: so the last level costs nothing where each pair is led to. Visits of the
 // places that `seek` passes over would change nothing.
 fn pass(
     table: &mut [u16],
-    width: usize,
+    count: usize,
     letters: &[u8],
     rests: &[u16],
     children_r: &[u16],
     children_s: &[u16],
-    k: u16,
+    k: Factors,
 )
-    requires { ⌜ Ready width k (now table) ⌝ }
-    requires { ⌜ Linked width (now letters) (now rests) (now «children_r») (now «children_s») ⌝ }
-    requires { ⌜ 1 ≤ width ⌝ }
-    ensures { λ _. ⌜ Passes (Rule width (now (letters .entry)) (now (rests .entry))) k (width * width) (now (table .entry)) (now (table .exit)) ⌝ }
+    requires { ⌜ Ready count (k .0) (now table) ⌝ }
+    requires { ⌜ Linked count (now letters) (now rests) (now «children_r») (now «children_s») ⌝ }
+    requires { ⌜ 1 ≤ count ⌝ }
+    ensures { λ _. ⌜ Passes (Rule count (now (letters .entry)) (now (rests .entry))) (k .0) (count * count) (now (table .entry)) (now (table .exit)) ⌝ }
 {
-    if absent(table, 0, table.len(), k + 1, 65535) {
+    let next = k.0 + 1;
+    if absent(table, 0, table.len(), Factors(next), Factors(u16::MAX)) {
         return;
     }
     let mut pair = Pair { row: 0, column: 0 };
-    while pair.row < width {
+    while pair.row < count {
         let x = pair.row;
-        let y = seek(table, width, x, pair.column, k);
+        let y = seek(table, count, x, pair.column, k);
         visit(
             table,
-            width,
+            count,
             letters,
             rests,
             children_r,
@@ -147,25 +150,25 @@ fn pass(
             y,
             k,
         );
-        pair = next_pair(Pair { row: x, column: y }, width);
+        pair = next_pair(Pair { row: x, column: y }, count);
     }
 }
 
 // The entry, where it lies above k; else `none`.
-fn above(entry: u16, k: u16, none: u16) -> u16
-    ensures { λ r. ⌜ (k < entry → r ≡ entry) × (entry ≤ k → r ≡ none) ⌝ }
+fn above(entry: u16, k: Factors, none: u16) -> u16
+    ensures { λ r. ⌜ (k .0 < entry → r ≡ entry) × (entry ≤ k .0 → r ≡ none) ⌝ }
 {
-    if k < entry {
+    if k.0 < entry {
         return entry;
     }
     none
 }
 
 // The level after k: the least entry above it, or n + 1. Every turn does the same, so that the loop runs on many entries at once.
-fn level_after(table: &[u16], k: u16, n: Factors) -> u16
-    requires { ⌜ k ≤ n .0 ⌝ }
-    requires { ⌜ n .0 ≤ 1000 ⌝ }
-    ensures { λ r. ⌜ NextLevel (n .0) (now (table .entry)) k r ⌝ }
+fn level_after(table: &[u16], k: Factors, n: Factors) -> Factors
+    requires { ⌜ k .0 ≤ n .0 ⌝ }
+    requires { ⌜ n .0 ≤ mostFactors ⌝ }
+    ensures { λ r. ⌜ NextLevel (n .0) (now (table .entry)) (k .0) (r .0) ⌝ }
 {
     let none = n.0 + 1;
     let mut least = none;
@@ -174,30 +177,30 @@ fn level_after(table: &[u16], k: u16, n: Factors) -> u16
         least = lesser(least, above(table[i], k, none));
         i += 1;
     }
-    least
+    Factors(least)
 }
 
 // Every entry becomes `none`: the n + 1 that stands for no series.
-fn clear(table: &mut [u16], none: u16)
-    ensures { λ _. ⌜ now (table .exit) ≡ replicate (length (now (table .entry))) none ⌝ }
+fn clear(table: &mut [u16], none: Factors)
+    ensures { λ _. ⌜ now (table .exit) ≡ replicate (length (now (table .entry))) (none .0) ⌝ }
 {
     let mut p = 0;
     while p < table.len() {
-        table[p] = none;
+        table[p] = none.0;
         p += 1;
     }
 }
 
 // Rule A: each generator leads from nothing, which is node 0, to its own node. Row 0 begins at the table's first place.
-fn start(table: &mut [u16], width: usize, wholes: &[u16])
-    requires { ⌜ length (now table) ≡ width * width ⌝ }
-    requires { ⌜ 1 ≤ width ⌝ }
-    requires { ⌜ AllBelow (now wholes) (length (now wholes)) width ⌝ }
-    ensures { λ _. ⌜ Relaxed 1 (Starts width (now (wholes .entry))) (now (table .entry)) (now (table .exit)) ⌝ }
+fn start(table: &mut [u16], count: usize, wholes: &[u16])
+    requires { ⌜ length (now table) ≡ count * count ⌝ }
+    requires { ⌜ 1 ≤ count ⌝ }
+    requires { ⌜ AllBelow (now wholes) (length (now wholes)) count ⌝ }
+    ensures { λ _. ⌜ Relaxed 1 (Starts count (now (wholes .entry))) (now (table .entry)) (now (table .exit)) ⌝ }
 {
     let mut j = 0;
     while j < wholes.len() {
-        relax(table, node(wholes, j), 1);
+        relax(table, entry(wholes, j), Factors(1));
         j += 1;
     }
 }
@@ -205,7 +208,7 @@ fn start(table: &mut [u16], width: usize, wholes: &[u16])
 // Fills the whole table, up to the bound n.
 pub(crate) fn fill_levels(
     table: &mut [u16],
-    width: usize,
+    count: usize,
     letters: &[u8],
     rests: &[u16],
     children_r: &[u16],
@@ -213,19 +216,20 @@ pub(crate) fn fill_levels(
     wholes: &[u16],
     n: Factors,
 )
-    requires { ⌜ length (now table) ≡ width * width ⌝ }
-    requires { ⌜ 1 ≤ width ⌝ }
-    requires { ⌜ width ≤ 65535 ⌝ }
-    requires { ⌜ n .0 ≤ 1000 ⌝ }
-    requires { ⌜ Linked width (now letters) (now rests) (now «children_r») (now «children_s») ⌝ }
-    requires { ⌜ AllBelow (now wholes) (length (now wholes)) width ⌝ }
-    ensures { λ _. ⌜ Full width (now (letters .entry)) (now (rests .entry)) (now (wholes .entry)) (n .0) (now (table .exit)) ⌝ }
+    requires { ⌜ length (now table) ≡ count * count ⌝ }
+    requires { ⌜ 1 ≤ count ⌝ }
+    requires { ⌜ count ≤ mostOfEntry ⌝ }
+    requires { ⌜ n .0 ≤ mostFactors ⌝ }
+    requires { ⌜ Linked count (now letters) (now rests) (now «children_r») (now «children_s») ⌝ }
+    requires { ⌜ AllBelow (now wholes) (length (now wholes)) count ⌝ }
+    ensures { λ _. ⌜ Full count (now (letters .entry)) (now (rests .entry)) (now (wholes .entry)) (n .0) (now (table .exit)) ⌝ }
 {
-    clear(table, n.0 + 1);
-    start(table, width, wholes);
-    let mut k = 1;
-    while k <= n.0 {
-        pass(table, width, letters, rests, children_r, children_s, k);
+    let none = n.0 + 1;
+    clear(table, Factors(none));
+    start(table, count, wholes);
+    let mut k = Factors(1);
+    while k.0 <= n.0 {
+        pass(table, count, letters, rests, children_r, children_s, k);
         k = level_after(table, k, n);
     }
 }

@@ -9,7 +9,7 @@ use Rattle.words.specs.Word.{Letter, R, S, Word}
 use Rattle.words.specs.Bytes.{letter, byte}
 use Rattle.words.proofs.Bytes.{letter-byte}
 use Rattle.trees.specs.Tree.{at, wordAt, Child}
-use Rattle.trees.specs.Growing.{tables, Nodes, Children, Grown, Room}
+use Rattle.trees.specs.Growing.{nodeSlices, NodeWords, ChildrenBy, Grown, RoomFor}
 use Rattle.trees.proofs.Behind.{at-same, at-other, at-below, behind, behind-length, behind-old, behind-new, behind-each}
 
 -- a letter is spelled by its byte, 82 or 83
@@ -22,7 +22,7 @@ not-own-tail a w e = omega (arith, ap length e)
 
 -- `words` and the slices are a tree, whose node p has no child by a. The new node has the number `length words`.
 module _ {a b : Letter} (differ : a ≡ b → ⊥) (words : List Word) (letters rests children others : List ℕ)
-    (g : Grown a b words (tables letters rests children others)) (p : ℕ) (inside : p < length words) (missing : at children p ≡ 0) where
+    (g : Grown a b words (nodeSlices letters rests children others)) (p : ℕ) (inside : p < length words) (missing : at children p ≡ 0) where
   abbrev all : List Word
   all = behind words (a ∷ wordAt words p)
 
@@ -90,7 +90,7 @@ module _ {a b : Letter} (differ : a ≡ b → ⊥) (words : List Word) (letters 
         rw (at-below letters (length words) q y h, at-below rests (length words) q p h, kept q h, kept (at rests q) (omega arith)) (g .nodes .node q z h))
         (λ z. last ∙ rw (last-letter, last-rest, kept p inside, is, letter-byte a))
 
-    nodes-more : Nodes all letters′ rests′
+    nodes-more : NodeWords all letters′ rests′
     nodes-more =
         record {
           some = omega (arith, one-more);
@@ -154,39 +154,39 @@ module _ {a b : Letter} (differ : a ≡ b → ⊥) (words : List Word) (letters 
   child-new =
       record { there = λ z. last ∙ ap (λ (w : Word). a ∷ w) (sym (kept p inside)); nowhere = λ z. absurd (omega arith) }
 
-  -- node q's child by x, as the slice `kids` has it
-  abbrev Kid : Letter → List ℕ → ℕ → Type 0
-  Kid x kids q = (at kids q < length all) × Child all x q (at kids q)
+  -- node q's child by x, as the slice has it
+  abbrev ChildAt : Letter → List ℕ → ℕ → Type 0
+  ChildAt x slice q = (at slice q < length all) × Child all x q (at slice q)
 
-  kid : (x : Letter) (kids : List ℕ) (q c : ℕ) → at kids q ≡ c → c < length words + 1 → Child all x q c → Kid x kids q
-  kid x kids q c e h d = rw e (omega (arith, one-more), d)
+  child-at : (x : Letter) (slice : List ℕ) (q c : ℕ) → at slice q ≡ c → c < length words + 1 → Child all x q c → ChildAt x slice q
+  child-at x slice q c e h d = rw e (omega (arith, one-more), d)
 
-  kids-more : (x : Letter) (kids : List ℕ) → ((q : ℕ) → q < length words → Kid x kids q) → Kid x kids (length words) → Children x all kids
-  kids-more x kids old new =
-      record { inside = λ q h. each (Kid x kids) old new q h .0; child = λ q h. each (Kid x kids) old new q h .1 }
+  children-more : (x : Letter) (slice : List ℕ) → ((q : ℕ) → q < length words → ChildAt x slice q) → ChildAt x slice (length words) → ChildrenBy x all slice
+  children-more x slice old new =
+      record { inside = λ q h. each (ChildAt x slice) old new q h .0; child = λ q h. each (ChildAt x slice) old new q h .1 }
 
-  by-a-more : length words < length children → Children a all (set (set children (length words) 0) p (length words))
+  by-a-more : length words < length children → ChildrenBy a all (set (set children (length words) 0) p (length words))
   by-a-more room =
-      kids-more
+      children-more
       a
-      kids
+      slice
       (λ q h.
       elim (ℕ-discrete q p) [
-        | yes z ↦ rw z (kid a kids p (length words) (at-same cleared p (length words) (rw length-set (omega arith))) (omega arith) child-new)
+        | yes z ↦ rw z (child-at a slice p (length words) (at-same cleared p (length words) (rw length-set (omega arith))) (omega arith) child-new)
         | no z ↦
             let old = g .by-a .inside q h in
-            kid
+            child-at
             a
-            kids
+            slice
             q
             (at children q)
             (at-other cleared p q (length words) z ∙ at-below children (length words) q 0 h)
             (omega arith)
             (child-kept a q (at children q) h old (λ _. z) (g .by-a .child q h))
       ])
-      (kid
+      (child-at
       a
-      kids
+      slice
       (length words)
       0
       (at-other cleared p (length words) (length words) (omega arith) ∙ at-same children (length words) 0 room)
@@ -196,31 +196,31 @@ module _ {a b : Letter} (differ : a ≡ b → ⊥) (words : List Word) (letters 
       cleared : List ℕ
       cleared = set children (length words) 0
 
-      kids : List ℕ
-      kids = set cleared p (length words)
+      slice : List ℕ
+      slice = set cleared p (length words)
 
-  by-b-more : length words < length others → Children b all (set others (length words) 0)
+  by-b-more : length words < length others → ChildrenBy b all (set others (length words) 0)
   by-b-more room =
-      kids-more
+      children-more
       b
-      kids
+      slice
       (λ q h.
       let old = g .by-b .inside q h in
-      kid
+      child-at
       b
-      kids
+      slice
       q
       (at others q)
       (at-below others (length words) q 0 h)
       (omega arith)
       (child-kept b q (at others q) h old (λ f _. differ (sym f)) (g .by-b .child q h)))
-      (kid b kids (length words) 0 (at-same others (length words) 0 room) (omega arith) (child-none b))
+      (child-at b slice (length words) 0 (at-same others (length words) 0 room) (omega arith) (child-none b))
     where
-      kids : List ℕ
-      kids = set others (length words) 0
+      slice : List ℕ
+      slice = set others (length words) 0
 
-  pub grown-more : (y : ℕ) → y ≡ byte a → Room (length words + 1) (tables letters rests children others)
-      → Grown a b all (tables (set letters (length words) y) (set rests (length words) p) (set (set children (length words) 0) p (length words))
+  pub grown-more : (y : ℕ) → y ≡ byte a → RoomFor (length words + 1) (nodeSlices letters rests children others)
+      → Grown a b all (nodeSlices (set letters (length words) y) (set rests (length words) p) (set (set children (length words) 0) p (length words))
       (set others (length words) 0))
   grown-more y is room =
       record {

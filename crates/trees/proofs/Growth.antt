@@ -10,7 +10,7 @@ use Rattle.words.specs.Word.{Letter, R, S, Word}
 use Rattle.words.specs.Bytes.{letter, byte, word}
 use Rattle.trees.specs.Tree.{at, wordAt}
 use Rattle.trees.specs.Numbering.{withWord, withSuffixes}
-use Rattle.trees.specs.Growing.{Tables, tables, Grown, Room, Remains, Grew, Grows}
+use Rattle.trees.specs.Growing.{NodeSlices, nodeSlices, Grown, RoomFor, Remains, Grew, Grows}
 use Rattle.trees.proofs.Behind.{behind-length, behind-new}
 use Rattle.trees.proofs.Numbering.{with-there, with-new}
 use Rattle.trees.proofs.Remaining.{remains-same, remains-more, remains-added}
@@ -18,32 +18,32 @@ use Rattle.trees.proofs.Adding.{grown-more}
 
 -- ---- nothing is added
 
-stays : {a b : Letter} (words : List Word) (t : Tables) (goal : Word) (node : ℕ)
+stays : {a b : Letter} (words : List Word) (t : NodeSlices) (goal : Word) (node : ℕ)
     → Grown a b words t → node < length words → wordAt words node ≡ goal → Grew a b words goal t node (length words)
 stays words t goal node g inside spells = record { counted = refl; grown = g; inside = inside; spells = spells }
 
 -- ---- one step, from node p to its child by a
 
 module _ {a b : Letter} (differ : a ≡ b → ⊥) (letters rests children others : List ℕ) (p count : ℕ) (inside : p < count) where
-  abbrev Steps : Tables → ℕ → ℕ → Type 0
-  Steps after node count′ = Grows a b withWord (λ words. a ∷ wordAt words p) 1 count (tables letters rests children others) after node count′
+  abbrev Steps : NodeSlices → ℕ → ℕ → Type 0
+  Steps after node count′ = Grows a b withWord (λ words. a ∷ wordAt words p) 1 count (nodeSlices letters rests children others) after node count′
 
-  pub child-found : 0 < at children p → Steps (tables letters rests children others) (at children p) count
+  pub child-found : 0 < at children p → Steps (nodeSlices letters rests children others) (at children p) count
   child-found there =
       record {
         no-fewer = le-refl count;
         few = omega arith;
-        remains = remains-same count (tables letters rests children others);
+        remains = remains-same count (nodeSlices letters rests children others);
         grew =
             λ words e g.
             let child = g .by-a .inside p (omega arith) in
             let spells = g .by-a .child p (omega arith) .there there in
             rw (← e, with-there words (a ∷ wordAt words p) (at children p) child spells)
-            (stays words (tables letters rests children others) (a ∷ wordAt words p) (at children p) g child spells);
+            (stays words (nodeSlices letters rests children others) (a ∷ wordAt words p) (at children p) g child spells);
       }
 
-  pub child-made : (y : ℕ) → at children p ≡ 0 → y ≡ byte a → Room (count + 1) (tables letters rests children others)
-      → Steps (tables (set letters count y) (set rests count p) (set (set children count 0) p count) (set others count 0)) count (count + 1)
+  pub child-made : (y : ℕ) → at children p ≡ 0 → y ≡ byte a → RoomFor (count + 1) (nodeSlices letters rests children others)
+      → Steps (nodeSlices (set letters count y) (set rests count p) (set (set children count 0) p count) (set others count 0)) count (count + 1)
   child-made y missing is room =
       record {
         no-fewer = omega arith;
@@ -66,16 +66,16 @@ module _ {a b : Letter} (differ : a ≡ b → ⊥) (letters rests children other
 pub r-not-s : R ≡ S → ⊥
 r-not-s e = let z : _≡_ {A = ℕ} 0 1 = cc in omega arith
 
-abbrev pub swapped : Tables → Tables
-swapped t = tables (t .letters) (t .rests) (t .others) (t .children)
+abbrev pub swapped : NodeSlices → NodeSlices
+swapped t = nodeSlices (t .letters) (t .rests) (t .others) (t .children)
 
-grown-swap : {a b : Letter} {words : List Word} (t : Tables) → Grown a b words t → Grown b a words (swapped t)
+grown-swap : {a b : Letter} {words : List Word} (t : NodeSlices) → Grown a b words t → Grown b a words (swapped t)
 grown-swap t g = record { nodes = g .nodes; by-a = g .by-b; by-b = g .by-a }
 
-remains-swap : {count : ℕ} {before after : Tables} → Remains count before after → Remains count (swapped before) (swapped after)
+remains-swap : {count : ℕ} {before after : NodeSlices} → Remains count before after → Remains count (swapped before) (swapped after)
 remains-swap r = record { letters = r .letters; rests = r .rests; children = r .others; others = r .children; root-letter = r .root-letter }
 
-pub grows-swap : {a b : Letter} {into : List Word → Word → List Word} {goal : List Word → Word} {more count : ℕ} (before after : Tables)
+pub grows-swap : {a b : Letter} {into : List Word → Word → List Word} {goal : List Word → Word} {more count : ℕ} (before after : NodeSlices)
     {node count′ : ℕ} → Grows a b into goal more count before after node count′ → Grows b a into goal more count (swapped before) (swapped after) node count′
 grows-swap before after s =
     record {
@@ -90,8 +90,8 @@ grows-swap before after s =
 
 -- ---- many steps: the bytes from `end` down to i are read
 
-module _ (bytes : List ℕ) (end count : ℕ) (before : Tables) where
-  abbrev pub ReadTo : ℕ → Tables → ℕ → ℕ → Type 0
+module _ (bytes : List ℕ) (end count : ℕ) (before : NodeSlices) where
+  abbrev pub ReadTo : ℕ → NodeSlices → ℕ → ℕ → Type 0
   ReadTo i after node count′ = Grows R S withSuffixes (λ words. word (slice i end bytes)) (end - i) count before after node count′
 
   pub read-none : ReadTo end before 0 count
@@ -114,7 +114,7 @@ module _ (bytes : List ℕ) (end count : ℕ) (before : Tables) where
         let back : suc (i - 1) ≡ i = omega arith in
         ap word (slice-cons (i - 1) end bytes 0 (omega arith) within) ∙ ap (λ (j : ℕ). next ∷ word (slice j end bytes)) back
 
-    pub read-one : {mid after : Tables} {node count′ node′ count″ : ℕ}
+    pub read-one : {mid after : NodeSlices} {node count′ node′ count″ : ℕ}
         → ReadTo i mid node count′ → Grows R S withWord (λ words. next ∷ wordAt words node) 1 count′ mid after node′ count″
         → ReadTo (i - 1) after node′ count″
     read-one {mid} {after} {node′ = node′} {count″ = count″} s t =

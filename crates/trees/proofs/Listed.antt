@@ -17,7 +17,7 @@ use Rattle.trees.specs.Tree.{at, wordAt, Child, Tree}
 use Rattle.trees.specs.Numbering.{withSuffixes, withAll, numbered}
 use Rattle.trees.specs.Building.{Fits}
 use Rattle.trees.specs.Ends.{endBefore}
-use Rattle.trees.specs.Growing.{Tables, tables, Nodes, Children, Grown, Room, Grows, Read}
+use Rattle.trees.specs.Growing.{NodeSlices, nodeSlices, NodeWords, ChildrenBy, Grown, RoomFor, Grows, Read}
 use Rattle.trees.proofs.Lists.{generators-length, generator-at}
 use Rattle.trees.proofs.Ends.{fits-ends, end-before-within, end-before-next}
 use Rattle.trees.proofs.Behind.{at-same, at-below}
@@ -32,7 +32,7 @@ no-child x = record { there = λ z. absurd (omega arith); nowhere = λ z q h e. 
     none zero h e = nil≢cons e
     none (suc q) h e = absurd (omega arith)
 
-no-children : (x : Letter) (children : List ℕ) → at children 0 ≡ 0 → Children x ([] ∷ []) children
+no-children : (x : Letter) (children : List ℕ) → at children 0 ≡ 0 → ChildrenBy x ([] ∷ []) children
 no-children x children e = record { inside = inside; child = child }
   where
     inside : (p : ℕ) → p < 1 → at children p < 1
@@ -45,7 +45,7 @@ no-children x children e = record { inside = inside; child = child }
 
 module _ (bytes ends : List ℕ) where
   pub read-begins : (letters rests childrenR childrenS wholes : List ℕ) → at rests 0 ≡ 0 → at childrenR 0 ≡ 0 → at childrenS 0 ≡ 0
-      → Read bytes ends 0 1 (tables letters rests childrenR childrenS) wholes
+      → Read bytes ends 0 1 (nodeSlices letters rests childrenR childrenS) wholes
   read-begins letters rests childrenR childrenS wholes no-rest no-r no-s =
       record {
         words = [] ∷ [];
@@ -58,7 +58,7 @@ module _ (bytes ends : List ℕ) where
         few = le-refl 1;
       }
     where
-      nodes : Nodes ([] ∷ []) letters rests
+      nodes : NodeWords ([] ∷ []) letters rests
       nodes =
           record {
             some = le-refl 1;
@@ -77,7 +77,7 @@ module _ (bytes ends : List ℕ) where
   -- ---- one generator more, from the end before it to its own
 
   module _ {i count : ℕ} {letters rests childrenR childrenS wholes : List ℕ} (f : Fits bytes ends letters rests childrenR childrenS wholes)
-      (h : i < length ends) (t : Read bytes ends i count (tables letters rests childrenR childrenS) wholes)
+      (h : i < length ends) (t : Read bytes ends i count (nodeSlices letters rests childrenR childrenS) wholes)
       (from end : ℕ) (starts : from ≡ endBefore ends i) (stops : end ≡ at ends i) where
     pub generator-rises : from ≤ end
     generator-rises = omega (arith, fits-ends f i h .rises)
@@ -85,7 +85,7 @@ module _ (bytes ends : List ℕ) where
     pub generator-within : end ≤ length bytes
     generator-within = omega (arith, fits-ends f i h .within)
 
-    pub generator-room : Room (count + (end - from)) (tables letters rests childrenR childrenS)
+    pub generator-room : RoomFor (count + (end - from)) (nodeSlices letters rests childrenR childrenS)
     generator-room =
         let more : count + (end - from) ≤ length bytes + 1 = omega (arith, generator-rises, generator-within, t .few) in
         record {
@@ -105,8 +105,8 @@ module _ (bytes ends : List ℕ) where
         let inside : i < length (generators bytes ends) = rw generators-length h in
         rw (add-one, ← whole-word, drop-cons (generators bytes ends) i [] inside)
 
-    pub read-more : {after : Tables} {node count′ : ℕ}
-        → Grows R S withSuffixes (λ words. word (slice from end bytes)) (end - from) count (tables letters rests childrenR childrenS) after node count′
+    pub read-more : {after : NodeSlices} {node count′ : ℕ}
+        → Grows R S withSuffixes (λ words. word (slice from end bytes)) (end - from) count (nodeSlices letters rests childrenR childrenS) after node count′
         → Read bytes ends (i + 1) count′ after (set wholes i node)
     read-more {node = node} s =
         let w = word (slice from end bytes) in
@@ -144,7 +144,7 @@ module _ (bytes ends : List ℕ) where
   -- ---- all generators
 
   -- every suffix of a node's word has a node
-  suffix-node : {a b : Letter} {words : List Word} (t : Tables) → Grown a b words t → (x q : Word) (p : ℕ) → p < length words → wordAt words p ≡ x ++ q
+  suffix-node : {a b : Letter} {words : List Word} (t : NodeSlices) → Grown a b words t → (x q : Word) (p : ℕ) → p < length words → wordAt words p ≡ x ++ q
       → (n : ℕ) × (n < length words) × (wordAt words n ≡ q)
   suffix-node t g [] q p h e = (p, h, e)
   suffix-node {words = words} t g (y ∷ x) q p h e =
@@ -157,7 +157,7 @@ module _ (bytes ends : List ℕ) where
       ]
 
   module _ {letters rests childrenR childrenS wholes : List ℕ} (f : Fits bytes ends letters rests childrenR childrenS wholes)
-      {count : ℕ} (t : Read bytes ends (length ends) count (tables letters rests childrenR childrenS) wholes) where
+      {count : ℕ} (t : Read bytes ends (length ends) count (nodeSlices letters rests childrenR childrenS) wholes) where
     pub few-nodes : count ≤ suc (length bytes)
     few-nodes = omega (arith, t .few, end-before-within f (length ends) (le-refl (length ends)))
 
@@ -200,7 +200,7 @@ module _ (bytes ends : List ℕ) where
         node-of q nothing = (0, t .grown .nodes .some, t .grown .nodes .root)
         node-of q (suffix j x h e) =
             let k : j < length ends = rw (generators-length bytes ends) at h in
-            suffix-node (tables letters rests childrenR childrenS) (t .grown) x q (at wholes j) (t .whole-inside j k) (t .whole j k ∙ e)
+            suffix-node (nodeSlices letters rests childrenR childrenS) (t .grown) x q (at wholes j) (t .whole-inside j k) (t .whole j k ∙ e)
 
     pub read-tree : Tree (generators bytes ends) (numbered (generators bytes ends)) letters rests childrenR childrenS wholes
     read-tree = rw (← all-words) tree-of-words

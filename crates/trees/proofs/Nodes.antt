@@ -44,21 +44,9 @@ module _ {gens words : List Word} {letters rests childrenR childrenS wholes : Li
   pub node-number-at : (p : ℕ) → p < length words → node-number words (wordAt words p) ≡ p
   node-number-at p h = let f = found words (wordAt words p) p h refl in t .once _ p (f .0) h (f .1)
 
-  is-letter : (a : Letter) (p : ℕ) → 0 < p → p < length words → at letters p ≡ byte a → wordAt words p ≡ a ∷ wordAt words (at rests p)
+  pub is-letter : (a : Letter) (p : ℕ) → 0 < p → p < length words → at letters p ≡ byte a → wordAt words p ≡ a ∷ wordAt words (at rests p)
   is-letter a p z h e =
       t .node p z h ∙ ap (λ (x : Letter). x ∷ wordAt words (at rests p)) (ap letter e ∙ letter-byte a)
-
-  begins : (a : Letter) (p : ℕ) → p < length words → (q : Word) → wordAt words p ≡ a ∷ q
-      → (0 < p) × (letter (at letters p) ≡ a) × (wordAt words (at rests p) ≡ q)
-  begins a p h q e =
-      elim (ℕ-discrete p 0) [
-        | yes z ↦ absurd (nil≢cons (sym (t .root) ∙ ap (wordAt words) (sym z) ∙ e))
-        | no z ↦
-            let is = t .node p (omega arith) h in
-            let first : letter (at letters p) ≡ a = cc in
-            let tail : wordAt words (at rests p) ≡ q = cc in
-            (omega arith, first, tail)
-      ]
 
   -- the letter's byte, from the letter
   pub byte-of : (a : Letter) (p : ℕ) → 0 < p → p < length words → letter (at letters p) ≡ a → at letters p ≡ byte a
@@ -68,6 +56,18 @@ module _ {gens words : List Word} {letters rests childrenR childrenS wholes : Li
         | no n ↦ let s = t .spelled p z h n in s ∙ ap byte (sym (ap letter s) ∙ e)
       ]
 
+  pub begins-letter : (a : Letter) (p : ℕ) → p < length words → (q : Word) → wordAt words p ≡ a ∷ q
+      → (0 < p) × (at letters p ≡ byte a) × (wordAt words (at rests p) ≡ q)
+  begins-letter a p h q e =
+      elim (ℕ-discrete p 0) [
+        | yes z ↦ absurd (nil≢cons (sym (t .root) ∙ ap (wordAt words) (sym z) ∙ e))
+        | no z ↦
+            let is = t .node p (omega arith) h in
+            let first : letter (at letters p) ≡ a = cc in
+            let tail : wordAt words (at rests p) ≡ q = cc in
+            (omega arith, byte-of a p (omega arith) h first, tail)
+      ]
+
   pub is-r : (p : ℕ) → 0 < p → p < length words → at letters p ≡ 82 → wordAt words p ≡ R ∷ wordAt words (at rests p)
   is-r = is-letter R
 
@@ -75,17 +75,17 @@ module _ {gens words : List Word} {letters rests childrenR childrenS wholes : Li
   is-s = is-letter S
 
   pub begins-r : (p : ℕ) → p < length words → (q : Word) → wordAt words p ≡ R ∷ q → (0 < p) × (at letters p ≡ 82) × (wordAt words (at rests p) ≡ q)
-  begins-r p h q e = let b = begins R p h q e in (b .0, byte-of R p (b .0) h (b .1), b .2)
+  begins-r = begins-letter R
 
   pub begins-s : (p : ℕ) → p < length words → (q : Word) → wordAt words p ≡ S ∷ q → (0 < p) × (at letters p ≡ 83) × (wordAt words (at rests p) ≡ q)
-  begins-s p h q e = let b = begins S p h q e in (b .0, byte-of S p (b .0) h (b .1), b .2)
+  begins-s = begins-letter S
 
   -- ---- children, by either letter
 
   child-node : (a : Letter) (p c : ℕ) → p < length words → 0 < c → c < length words → Child words a p c → (at letters c ≡ byte a) × (at rests c ≡ p)
   child-node a p c h z k d =
-      let b = begins a c k (wordAt words p) (d .there z) in
-      (byte-of a c z k (b .1), t .once (at rests c) p (omega (arith, t .shape .rest-earlier c z k)) h (b .2))
+      let b = begins-letter a c k (wordAt words p) (d .there z) in
+      (b .1, t .once (at rests c) p (omega (arith, t .shape .rest-earlier c z k)) h (b .2))
 
   child-found : (a : Letter) (c k : ℕ) → 0 < c → c < length words → at letters c ≡ byte a → k < length words → Child words a (at rests c) k → k ≡ c
   child-found a c k z h e i d =

@@ -4,16 +4,16 @@ use mathlib.Core.List.{List}
 use Prim.Native.Nat.{ℕ, suc, _≤_, _<_}
 use lib.ListN.{length}
 use Rattle.products.specs.Product.{generators}
-use Rattle.trees.specs.Tree.{at, Tree}
+use Rattle.trees.specs.Tree.{at, mostOfEntry, Tree}
 use Rattle.trees.specs.Numbering.{numbered}
-use Rattle.trees.specs.Growing.{tables, Remains}
+use Rattle.trees.specs.Growing.{nodeSlices, Remains}
 use Rattle.trees.specs.declared.Built.{Built}
 use Rattle.trees.specs.declared.Built.the-variants.{Nodes, Unfit}
 
 -- The ends never fall and stay within the letters, and each lent slice has room: for a node more than there are letters, and for just
 -- the generators.
 pub record Fits (bytes ends letters rests childrenR childrenS wholes : List ℕ) : Type 0 where
-  pub few : length bytes < 65535
+  pub few : length bytes < mostOfEntry
   pub rising : (i j : ℕ) → i ≤ j → j < length ends → at ends i ≤ at ends j
   pub within : (j : ℕ) → j < length ends → at ends j ≤ length bytes
   pub room-letters : length bytes < length letters
@@ -40,8 +40,8 @@ pub record BuildsTree (bytes ends : List ℕ) (before after : Slices) (count : �
   pub counted : length (numbered (generators bytes ends)) ≡ count
   pub few : count ≤ suc (length bytes)
   pub remains :
-      Remains count (tables (before .letters) (before .rests) (before .childrenR) (before .childrenS))
-      (tables (after .letters) (after .rests) (after .childrenR) (after .childrenS))
+      Remains count (nodeSlices (before .letters) (before .rests) (before .childrenR) (before .childrenS))
+      (nodeSlices (after .letters) (after .rests) (after .childrenR) (after .childrenS))
   pub root-rest : at (after .rests) 0 ≡ 0
 
 -- Where the inputs fit the tree is built, and the answer is how many nodes it has; else nothing changes.

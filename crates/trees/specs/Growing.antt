@@ -7,22 +7,22 @@ use Rattle.words.specs.Word.{Letter, R, S, Word}
 use Rattle.words.specs.Bytes.{letter}
 use Rattle.products.specs.Product.{generators, generator}
 use Rattle.products.specs.State.{State}
-use Rattle.trees.specs.Tree.{at, wordAt, Child}
+use Rattle.trees.specs.Tree.{at, mostOfEntry, wordAt, Child}
 use Rattle.trees.specs.Numbering.{withAll, numbered}
 use Rattle.trees.specs.Ends.{endBefore}
 
 -- What the lent slices say of the nodes: letters, rests, the children by one letter and those by the other.
-pub record Tables : Type 0 where
+pub record NodeSlices : Type 0 where
   pub letters : List ℕ
   pub rests : List ℕ
   pub children : List ℕ
   pub others : List ℕ
 
-abbrev pub tables : List ℕ → List ℕ → List ℕ → List ℕ → Tables
-tables letters rests children others = record { letters = letters; rests = rests; children = children; others = others }
+abbrev pub nodeSlices : List ℕ → List ℕ → List ℕ → List ℕ → NodeSlices
+nodeSlices letters rests children others = record { letters = letters; rests = rests; children = children; others = others }
 
 -- The nodes so far: each but node 0 is its letter in front of an earlier node's word, and no two have the same word.
-pub record Nodes (words : List Word) (letters rests : List ℕ) : Type 0 where
+pub record NodeWords (words : List Word) (letters rests : List ℕ) : Type 0 where
   pub some : 1 ≤ length words
   pub root : wordAt words 0 ≡ []
   pub root-rest : at rests 0 ≡ 0
@@ -32,38 +32,38 @@ pub record Nodes (words : List Word) (letters rests : List ℕ) : Type 0 where
   pub once : (p q : ℕ) → p < length words → q < length words → wordAt words p ≡ wordAt words q → p ≡ q
 
 -- the children of the nodes by the letter a
-pub record Children (a : Letter) (words : List Word) (children : List ℕ) : Type 0 where
+pub record ChildrenBy (a : Letter) (words : List Word) (children : List ℕ) : Type 0 where
   pub inside : (p : ℕ) → p < length words → at children p < length words
   pub child : (p : ℕ) → p < length words → Child words a p (at children p)
 
--- The tables hold a tree whose nodes have the `words`, with the children by a and by the other letter b: one argument serves for both letters.
-pub record Grown (a b : Letter) (words : List Word) (t : Tables) : Type 0 where
-  pub nodes : Nodes words (t .letters) (t .rests)
-  pub by-a : Children a words (t .children)
-  pub by-b : Children b words (t .others)
+-- The slices hold a tree whose nodes have the `words`, with the children by a and by the other letter b: one argument serves for both letters.
+pub record Grown (a b : Letter) (words : List Word) (t : NodeSlices) : Type 0 where
+  pub nodes : NodeWords words (t .letters) (t .rests)
+  pub by-a : ChildrenBy a words (t .children)
+  pub by-b : ChildrenBy b words (t .others)
 
--- the tables hold some tree of `count` nodes
-abbrev pub SomeGrown : Letter → Letter → ℕ → Tables → Type 0
+-- the slices hold some tree of `count` nodes
+abbrev pub SomeGrown : Letter → Letter → ℕ → NodeSlices → Type 0
 SomeGrown a b count t = (words : List Word) × (length words ≡ count) × Grown a b words t
 
 -- there is room for n nodes, and their numbers fit
-pub record Room (n : ℕ) (t : Tables) : Type 0 where
-  pub few : n ≤ 65535
+pub record RoomFor (n : ℕ) (t : NodeSlices) : Type 0 where
+  pub few : n ≤ mostOfEntry
   pub in-letters : n ≤ length (t .letters)
   pub in-rests : n ≤ length (t .rests)
   pub in-children : n ≤ length (t .children)
   pub in-others : n ≤ length (t .others)
 
 -- What stands behind the first `count` nodes remains, and so does the letter of node 0, which means nothing.
-pub record Remains (count : ℕ) (before after : Tables) : Type 0 where
+pub record Remains (count : ℕ) (before after : NodeSlices) : Type 0 where
   pub letters : drop count (after .letters) ≡ drop count (before .letters)
   pub rests : drop count (after .rests) ≡ drop count (before .rests)
   pub children : drop count (after .children) ≡ drop count (before .children)
   pub others : drop count (after .others) ≡ drop count (before .others)
   pub root-letter : at (after .letters) 0 ≡ at (before .letters) 0
 
--- The tables hold the tree of `words`, with `count` nodes, and `node` has the word `goal`.
-pub record Grew (a b : Letter) (words : List Word) (goal : Word) (t : Tables) (node count : ℕ) : Type 0 where
+-- The slices hold the tree of `words`, with `count` nodes, and `node` has the word `goal`.
+pub record Grew (a b : Letter) (words : List Word) (goal : Word) (t : NodeSlices) (node count : ℕ) : Type 0 where
   pub counted : length words ≡ count
   pub grown : Grown a b words t
   pub inside : node < length words
@@ -71,7 +71,7 @@ pub record Grew (a b : Letter) (words : List Word) (goal : Word) (t : Tables) (n
 
 -- What a call makes of any tree of `count` nodes: it reads the goal `into` the words, adds at most `more` nodes, writes nothing behind them, and
 -- answers the node of the goal.
-pub record Grows (a b : Letter) (into : List Word → Word → List Word) (goal : List Word → Word) (more count : ℕ) (before after : Tables) (node count′ : ℕ)
+pub record Grows (a b : Letter) (into : List Word → Word → List Word) (goal : List Word → Word) (more count : ℕ) (before after : NodeSlices) (node count′ : ℕ)
     : Type 0 where
   pub no-fewer : count ≤ count′
   pub few : count′ ≤ count + more
@@ -79,7 +79,7 @@ pub record Grows (a b : Letter) (into : List Word → Word → List Word) (goal 
   pub grew : (words : List Word) → length words ≡ count → Grown a b words before → Grew a b (into words (goal words)) (goal words) after node count′
 
 -- The first i generators of a list are in the tree; with the others the words are all.
-pub record Read (bytes ends : List ℕ) (i count : ℕ) (t : Tables) (wholes : List ℕ) : Type 0 where
+pub record Read (bytes ends : List ℕ) (i count : ℕ) (t : NodeSlices) (wholes : List ℕ) : Type 0 where
   pub words : List Word
   pub counted : length words ≡ count
   pub grown : Grown R S words t

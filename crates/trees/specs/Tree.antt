@@ -9,6 +9,10 @@ use Rattle.words.specs.Bytes.{letter}
 use Rattle.products.specs.Product.{generator, Factor}
 use Rattle.products.specs.State.{State}
 
+-- the most that a number of 16 bits is: the slices hold such numbers
+abbrev pub mostOfEntry : ℕ
+mostOfEntry = 65535
+
 -- the number at a place of a list of numbers, and the word at a place of a list of words
 abbrev pub at : List ℕ → ℕ → ℕ
 at l p = getD l p 0

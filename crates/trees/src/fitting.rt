@@ -1,23 +1,13 @@
 // Whether the inputs fit: a linear test, total for slices of any length and content.
+use crate::entries;
+use crate::entries::entry;
 ghost use mathlib.Core.Path.{_≡_};
-ghost use Prim.Native.Nat.{_≤_, _<_};
-ghost use lib.ListN.{length};
 ghost use Rattle.words.specs.Telling.{Tells};
-ghost use Rattle.trees.specs.Tree.{at};
 ghost use Rattle.trees.specs.Building.{Fits};
 ghost use Rattle.trees.specs.Ends.{endBefore, EndFits, EndsFit};
 
-// The number at a place.
-pub(crate) fn entry(numbers: &[u16], i: usize) -> usize
-    requires { ⌜ i < length (now numbers) ⌝ }
-    ensures { λ r. ⌜ r ≡ at (now (numbers .entry)) i ⌝ }
-{
-    numbers[i] as usize
-}
-
 // The end before generator i: 0 for the first.
 pub(crate) fn end_before(ends: &[u16], i: usize) -> usize
-    requires { ⌜ i ≤ length (now ends) ⌝ }
     ensures { λ r. ⌜ r ≡ endBefore (now (ends .entry)) i ⌝ }
 {
     if i == 0 {
@@ -27,7 +17,6 @@ pub(crate) fn end_before(ends: &[u16], i: usize) -> usize
 }
 
 fn end_fits(ends: &[u16], i: usize, limit: usize) -> bool
-    requires { ⌜ i < length (now ends) ⌝ }
     ensures { λ r. ⌜ Tells r (EndFits (now (ends .entry)) limit i) ⌝ }
 {
     let end = entry(ends, i);
@@ -68,7 +57,7 @@ pub(crate) fn fits(
         (Fits (now (bytes .entry)) (now (ends .entry)) (now (letters .entry)) (now (rests .entry))
         (now («children_r» .entry)) (now («children_s» .entry)) (now (wholes .entry))) ⌝ }
 {
-    if 65535 <= bytes.len() {
+    if entries::MOST <= bytes.len() {
         return false;
     }
     if letters.len() <= bytes.len() {

@@ -1,6 +1,6 @@
 // A word is read backwards into the tree: from its last letter to its first, each time from a node to its child by the letter read, which
 // is made where it is missing. 0 stands for no child: node 0, the empty word, is nobody's child.
-use crate::fitting::entry;
+use crate::entries::entry;
 ghost use mathlib.Core.Path.{_≡_};
 ghost use mathlib.Core.List.{_∷_};
 ghost use Prim.Native.Nat.{_+_, _-_, _≤_, _<_};
@@ -10,7 +10,7 @@ ghost use Rattle.words.specs.Word.{Letter, R, S};
 ghost use Rattle.words.specs.Bytes.{letter, byte as byteOf, word as wordOf};
 ghost use Rattle.trees.specs.Tree.{wordAt};
 ghost use Rattle.trees.specs.Numbering.{withWord, withSuffixes};
-ghost use Rattle.trees.specs.Growing.{tables, SomeGrown, Room, Grows};
+ghost use Rattle.trees.specs.Growing.{nodeSlices, SomeGrown, RoomFor, Grows};
 
 // A node, and how many nodes there are.
 pub(crate) struct Place {
@@ -29,7 +29,7 @@ fn add_node(
     byte: u8,
 )
     requires { ⌜ parent < count ⌝ }
-    requires { ⌜ Room (count + 1) (tables (now letters) (now rests) (now children) (now others)) ⌝ }
+    requires { ⌜ RoomFor (count + 1) (nodeSlices (now letters) (now rests) (now children) (now others)) ⌝ }
     ensures { λ _. ⌜ (now (letters .exit) ≡ set (now (letters .entry)) count byte)
         × (now (rests .exit) ≡ set (now (rests .entry)) count parent)
         × (now (children .exit) ≡ set (set (now (children .entry)) count 0) parent count)
@@ -52,11 +52,11 @@ fn child_by(
     byte: u8,
 ) -> Place
     requires { ⌜ place .node < place .count ⌝ }
-    requires { ⌜ Room (place .count + 1) (tables (now letters) (now rests) (now children) (now others)) ⌝ }
+    requires { ⌜ RoomFor (place .count + 1) (nodeSlices (now letters) (now rests) (now children) (now others)) ⌝ }
     ensures { λ r. ⌜ ((a b : Letter) → (a ≡ b → ⊥) → byte ≡ byteOf a
         → Grows a b withWord (λ words. a ∷ wordAt words (place .node)) 1 (place .count)
-        (tables (now (letters .entry)) (now (rests .entry)) (now (children .entry)) (now (others .entry)))
-        (tables (now (letters .exit)) (now (rests .exit)) (now (children .exit)) (now (others .exit)))
+        (nodeSlices (now (letters .entry)) (now (rests .entry)) (now (children .entry)) (now (others .entry)))
+        (nodeSlices (now (letters .exit)) (now (rests .exit)) (now (children .exit)) (now (others .exit)))
         (r .node) (r .count)) ⌝ }
 {
     let count = place.count;
@@ -82,10 +82,10 @@ fn child(
     byte: u8,
 ) -> Place
     requires { ⌜ place .node < place .count ⌝ }
-    requires { ⌜ Room (place .count + 1) (tables (now letters) (now rests) (now «children_r») (now «children_s»)) ⌝ }
+    requires { ⌜ RoomFor (place .count + 1) (nodeSlices (now letters) (now rests) (now «children_r») (now «children_s»)) ⌝ }
     ensures { λ r. ⌜ Grows R S withWord (λ words. letter byte ∷ wordAt words (place .node)) 1 (place .count)
-        (tables (now (letters .entry)) (now (rests .entry)) (now («children_r» .entry)) (now («children_s» .entry)))
-        (tables (now (letters .exit)) (now (rests .exit)) (now («children_r» .exit)) (now («children_s» .exit)))
+        (nodeSlices (now (letters .entry)) (now (rests .entry)) (now («children_r» .entry)) (now («children_s» .entry)))
+        (nodeSlices (now (letters .exit)) (now (rests .exit)) (now («children_r» .exit)) (now («children_s» .exit)))
         (r .node) (r .count) ⌝ }
 {
     if byte == 82 {
@@ -106,11 +106,11 @@ pub(crate) fn read_backwards(
     count: usize,
 ) -> Place
     requires { ⌜ (from ≤ end) × (end ≤ length (now bytes)) ⌝ }
-    requires { ⌜ Room (count + (end - from)) (tables (now letters) (now rests) (now «children_r») (now «children_s»)) ⌝ }
-    requires { ⌜ SomeGrown R S count (tables (now letters) (now rests) (now «children_r») (now «children_s»)) ⌝ }
+    requires { ⌜ RoomFor (count + (end - from)) (nodeSlices (now letters) (now rests) (now «children_r») (now «children_s»)) ⌝ }
+    requires { ⌜ SomeGrown R S count (nodeSlices (now letters) (now rests) (now «children_r») (now «children_s»)) ⌝ }
     ensures { λ r. ⌜ Grows R S withSuffixes (λ words. wordOf (slice from end (now (bytes .entry)))) (end - from) count
-        (tables (now (letters .entry)) (now (rests .entry)) (now («children_r» .entry)) (now («children_s» .entry)))
-        (tables (now (letters .exit)) (now (rests .exit)) (now («children_r» .exit)) (now («children_s» .exit)))
+        (nodeSlices (now (letters .entry)) (now (rests .entry)) (now («children_r» .entry)) (now («children_s» .entry)))
+        (nodeSlices (now (letters .exit)) (now (rests .exit)) (now («children_r» .exit)) (now («children_s» .exit)))
         (r .node) (r .count) ⌝ }
 {
     let mut place = Place { node: 0, count };

@@ -1,5 +1,5 @@
 // The tree of suffixes of a list of generators: its nodes are the states of the engine's tables, each with one number.
-pub mod bounds;
+pub mod entries;
 mod fitting;
 mod growing;
 mod reading;

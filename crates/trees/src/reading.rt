@@ -1,11 +1,12 @@
 // The generators of a list are read into the tree, one after the other.
+use crate::entries::entry;
 use crate::fitting;
 use crate::growing;
 ghost use mathlib.Core.Path.{_≡_};
 ghost use Prim.Native.Nat.{_+_, _≤_, _<_};
 ghost use lib.ListN.{length, set};
 ghost use Rattle.trees.specs.Building.{Fits};
-ghost use Rattle.trees.specs.Growing.{tables, Remains, Read};
+ghost use Rattle.trees.specs.Growing.{nodeSlices, Remains, Read};
 
 // Node 0, the empty word. Its letter may be anything, and is left.
 fn make_root(rests: &mut [u16], children_r: &mut [u16], children_s: &mut [u16])
@@ -33,16 +34,16 @@ fn read_generator(
 ) -> usize
     requires { ⌜ i < length (now ends) ⌝ }
     requires { ⌜ Fits (now bytes) (now ends) (now letters) (now rests) (now «children_r») (now «children_s») (now wholes) ⌝ }
-    requires { ⌜ Read (now bytes) (now ends) i count (tables (now letters) (now rests) (now «children_r») (now «children_s»)) (now wholes) ⌝ }
+    requires { ⌜ Read (now bytes) (now ends) i count (nodeSlices (now letters) (now rests) (now «children_r») (now «children_s»)) (now wholes) ⌝ }
     ensures { λ r. ⌜ Read (now (bytes .entry)) (now (ends .entry)) (i + 1) r
-        (tables (now (letters .exit)) (now (rests .exit)) (now («children_r» .exit)) (now («children_s» .exit)))
+        (nodeSlices (now (letters .exit)) (now (rests .exit)) (now («children_r» .exit)) (now («children_s» .exit)))
         (now (wholes .exit)) ⌝ }
     ensures { λ r. ⌜ (count ≤ r) × Remains r
-        (tables (now (letters .entry)) (now (rests .entry)) (now («children_r» .entry)) (now («children_s» .entry)))
-        (tables (now (letters .exit)) (now (rests .exit)) (now («children_r» .exit)) (now («children_s» .exit))) ⌝ }
+        (nodeSlices (now (letters .entry)) (now (rests .entry)) (now («children_r» .entry)) (now («children_s» .entry)))
+        (nodeSlices (now (letters .exit)) (now (rests .exit)) (now («children_r» .exit)) (now («children_s» .exit))) ⌝ }
 {
     let from = fitting::end_before(ends, i);
-    let end = fitting::entry(ends, i);
+    let end = entry(ends, i);
     let place = growing::read_backwards(
         bytes,
         from,
@@ -69,11 +70,11 @@ pub(crate) fn read_all(
 ) -> usize
     requires { ⌜ Fits (now bytes) (now ends) (now letters) (now rests) (now «children_r») (now «children_s») (now wholes) ⌝ }
     ensures { λ r. ⌜ Read (now (bytes .entry)) (now (ends .entry)) (length (now (ends .entry))) r
-        (tables (now (letters .exit)) (now (rests .exit)) (now («children_r» .exit)) (now («children_s» .exit)))
+        (nodeSlices (now (letters .exit)) (now (rests .exit)) (now («children_r» .exit)) (now («children_s» .exit)))
         (now (wholes .exit)) ⌝ }
     ensures { λ r. ⌜ Remains r
-        (tables (now (letters .entry)) (now (rests .entry)) (now («children_r» .entry)) (now («children_s» .entry)))
-        (tables (now (letters .exit)) (now (rests .exit)) (now («children_r» .exit)) (now («children_s» .exit))) ⌝ }
+        (nodeSlices (now (letters .entry)) (now (rests .entry)) (now («children_r» .entry)) (now («children_s» .entry)))
+        (nodeSlices (now (letters .exit)) (now (rests .exit)) (now («children_r» .exit)) (now («children_s» .exit))) ⌝ }
 {
     make_root(rests, children_r, children_s);
     let mut count = 1;

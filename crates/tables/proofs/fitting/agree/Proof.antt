@@ -9,10 +9,10 @@ use Rattle.tables.proofs.fitting.agree.Statement.{statement}
 use Rattle.tables.proofs.fitting.agree.Tie as tie
 
 abbrev Inv-loop : tie.InvT-loop
-Inv-loop letters rests letter children width p₀ p = (p ≤ width) × ((q : ℕ) → q < p → Agrees letters rests letter children q)
+Inv-loop letters rests letter children count p₀ p = (p ≤ count) × ((q : ℕ) → q < p → Agrees letters rests letter children q)
 
 abbrev μ-loop : tie.MeasureT-loop
-μ-loop letters rests letter children width p₀ p = width - p
+μ-loop letters rests letter children count p₀ p = count - p
 
 loop-holds : tie.Need-loop-holds Inv-loop μ-loop
 loop-holds c = search needs

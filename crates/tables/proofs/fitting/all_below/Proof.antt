@@ -16,11 +16,11 @@ abbrev μ-loop : tie.MeasureT-loop
 loop-holds : tie.Need-loop-holds Inv-loop μ-loop
 loop-holds c = search needs
 
-node-requires : tie.Need-node-requires Inv-loop μ-loop
-node-requires c κs = search needs
+entry-requires : tie.Need-entry-requires Inv-loop μ-loop
+entry-requires c κs = search needs
 
 returns : tie.Need-returns Inv-loop μ-loop
-returns c = λ all. omega (arith, all (c .before .before .before .loop .p) (c .before .before .loop-test .taken), c .before .node .ensures)
+returns c = λ all. omega (arith, all (c .before .before .before .loop .p) (c .before .before .loop-test .taken), c .before .entry .ensures .0)
 
 add-p : tie.Need-add-p Inv-loop μ-loop
 add-p c = search needs
@@ -29,7 +29,7 @@ loop-less : tie.Need-loop-less Inv-loop μ-loop
 loop-less c = search needs
 
 loop-again : tie.Need-loop-again Inv-loop μ-loop
-loop-again c = (omega arith, below-more _ _ (c .before .before .before .loop .inv .1) (omega (arith, c .before .node .ensures)))
+loop-again c = (omega arith, below-more _ _ (c .before .before .before .loop .inv .1) (omega (arith, c .before .entry .ensures .0)))
 
 returns-2 : tie.Need-returns-2 Inv-loop μ-loop
 returns-2 c = λ q inside. c .before .loop .inv .1 q (omega arith)
@@ -41,7 +41,7 @@ all-below-spec =
     Inv-loop
     μ-loop
     loop-holds
-    node-requires
+    entry-requires
     returns
     add-p
     loop-less

@@ -28,7 +28,7 @@ returns-7 c = λ room. omega arith
 mul-if8 : tie.Need-mul-if8
 mul-if8 c =
     let start = c .before .before .before .before .before .before .before .before in
-    omega (arith, square-bounded {w = start .args .width} (omega arith))
+    omega (arith, square-bounded {count = start .args .count} (omega arith))
 
 returns-8 : tie.Need-returns-8
 returns-8 c = λ room. omega arith

@@ -13,23 +13,21 @@ returns c = λ positive. absurd (omega arith)
 shared-slice-read-if2 : tie.Need-shared-slice-read-if2
 shared-slice-read-if2 c = search needs
 
-node-requires : tie.Need-node-requires
-node-requires c κs = search needs
+entry-requires : tie.Need-entry-requires
+entry-requires c κs = search needs
 
-node-requires-2 : tie.Need-node-requires-2
-node-requires-2 c κs =
-    let start = c .before .before .before .before .before .before .before in
-    omega (arith, c .node .ensures, start .pre .1 .rest-earlier (start .args .p) (omega arith) (start .pre .0), start .pre .1 .room-children)
+entry-requires-2 : tie.Need-entry-requires-2
+entry-requires-2 c κs = search needs
 
 returns-2 : tie.Need-returns-2
 returns-2 c =
     let at-if2 = c .before .before in
     let start = at-if2 .before .before .before .before .before .before in
     let a = start .args in
-    let read = c .before .node .ensures in
-    tells-eqb (c .node2 .result) (a .p)
-    (λ same positive spelled. ap (at (a .children .now)) (sym read) ∙ sym (c .node2 .ensures) ∙ same)
-    (λ agrees. c .node2 .ensures ∙ ap (at (a .children .now)) read ∙ agrees (omega arith) (at-if2 .if2 .taken))
+    let read = c .before .entry .ensures .0 in
+    tells-eqb (c .entry2 .result) (a .p)
+    (λ same positive spelled. ap (at (a .children .now)) (sym read) ∙ sym (c .entry2 .ensures .0) ∙ same)
+    (λ agrees. c .entry2 .ensures .0 ∙ ap (at (a .children .now)) read ∙ agrees (omega arith) (at-if2 .if2 .taken))
 
 returns-3 : tie.Need-returns-3
 returns-3 c = λ positive spelled. absurd (c .if2 .left spelled)
@@ -37,4 +35,4 @@ returns-3 c = λ positive spelled. absurd (c .if2 .left spelled)
 pub rest-agrees-spec : {M : Type 1} → statement M
 rest-agrees-spec =
     tie.close
-    (tie.spec returns shared-slice-read-if2 node-requires node-requires-2 returns-2 returns-3)
+    (tie.spec returns shared-slice-read-if2 entry-requires entry-requires-2 returns-2 returns-3)

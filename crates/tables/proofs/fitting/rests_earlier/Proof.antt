@@ -8,21 +8,21 @@ use Rattle.tables.proofs.fitting.rests_earlier.Statement.{statement}
 use Rattle.tables.proofs.fitting.rests_earlier.Tie as tie
 
 abbrev Inv-loop : tie.InvT-loop
-Inv-loop rests width p₀ p = (1 ≤ p) × (p ≤ width) × ((q : ℕ) → q < p → 0 < q → at rests q < q)
+Inv-loop rests count p₀ p = (1 ≤ p) × (p ≤ count) × ((q : ℕ) → q < p → 0 < q → at rests q < q)
 
 abbrev μ-loop : tie.MeasureT-loop
-μ-loop rests width p₀ p = width - p
+μ-loop rests count p₀ p = count - p
 
 loop-holds : tie.Need-loop-holds Inv-loop μ-loop
 loop-holds c = (omega arith, omega arith, λ q inside positive. absurd (omega arith))
 
-node-requires : tie.Need-node-requires Inv-loop μ-loop
-node-requires c κs = search needs
+entry-requires : tie.Need-entry-requires Inv-loop μ-loop
+entry-requires c κs = search needs
 
 returns : tie.Need-returns Inv-loop μ-loop
 returns c =
     let l = c .before .before .before .loop in
-    λ all. omega (arith, all (l .p) (l .inv .0) (c .before .before .loop-test .taken), c .before .node .ensures)
+    λ all. omega (arith, all (l .p) (l .inv .0) (c .before .before .loop-test .taken), c .before .entry .ensures .0)
 
 add-p : tie.Need-add-p Inv-loop μ-loop
 add-p c = search needs
@@ -31,7 +31,7 @@ loop-less : tie.Need-loop-less Inv-loop μ-loop
 loop-less c = search needs
 
 loop-again : tie.Need-loop-again Inv-loop μ-loop
-loop-again c = (omega arith, omega arith, below-more _ _ (c .before .before .before .loop .inv .2) (λ positive. omega (arith, c .before .node .ensures)))
+loop-again c = (omega arith, omega arith, below-more _ _ (c .before .before .before .loop .inv .2) (λ positive. omega (arith, c .before .entry .ensures .0)))
 
 returns-2 : tie.Need-returns-2 Inv-loop μ-loop
 returns-2 c = λ q positive inside. c .before .loop .inv .2 q (omega arith) positive
@@ -43,7 +43,7 @@ rests-earlier-spec =
     Inv-loop
     μ-loop
     loop-holds
-    node-requires
+    entry-requires
     returns
     add-p
     loop-less

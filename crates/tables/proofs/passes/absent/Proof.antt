@@ -10,7 +10,7 @@ use Rattle.tables.proofs.passes.absent.Statement.{statement}
 use Rattle.tables.proofs.passes.absent.Tie as tie
 
 abbrev Inv-loop : tie.InvT-loop
-Inv-loop table from end low high none₀ p₀ none p = (from ≤ p) × (p ≤ end) × Tells none (Without low high table from p)
+Inv-loop table from end low high none₀ p₀ none p = (from ≤ p) × (p ≤ end) × Tells none (Without (low .0) (high .0) table from p)
 
 abbrev μ-loop : tie.MeasureT-loop
 μ-loop table from end low high none₀ p₀ none p = end - p

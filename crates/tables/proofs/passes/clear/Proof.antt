@@ -11,7 +11,7 @@ use Rattle.tables.proofs.passes.clear.Statement.{statement}
 use Rattle.tables.proofs.passes.clear.Tie as tie
 
 abbrev Inv-loop : tie.InvT-loop
-Inv-loop table₀ none p₀ table p = (p ≤ length table₀) × (table ≡ replicate p none ++ drop p table₀) × (length table ≡ length table₀)
+Inv-loop table₀ none p₀ table p = (p ≤ length table₀) × (table ≡ replicate p (none .0) ++ drop p table₀) × (length table ≡ length table₀)
 
 abbrev μ-loop : tie.MeasureT-loop
 μ-loop table₀ none p₀ table p = length table₀ - p
@@ -36,8 +36,8 @@ loop-again c =
     let l = c .before .loop in
     let a = c .before .before .args in (
       omega arith,
-      ap (λ (t : List ℕ). set t (l .p) (a .none)) (l .inv .1) ∙ fill-more (l .p) (a .none) (a .table .now) (omega arith),
-      length-set (l .table) (l .p) (a .none) ∙ l .inv .2,
+      ap (λ (t : List ℕ). set t (l .p) (a .none .0)) (l .inv .1) ∙ fill-more (l .p) (a .none .0) (a .table .now) (omega arith),
+      length-set (l .table) (l .p) (a .none .0) ∙ l .inv .2,
     )
 
 same-length : tie.Need-same-length Inv-loop μ-loop
@@ -48,8 +48,8 @@ returns c =
     let l = c .before .loop in
     let a = c .before .before .args in
     let all : l .p ≡ length (a .table .now) = omega arith in
-    l .inv .1 ∙ ap (λ (n : ℕ). replicate n (a .none) ++ drop n (a .table .now)) all
-    ∙ ap (λ (t : List ℕ). replicate (length (a .table .now)) (a .none) ++ t) (drop-of-length-le (a .table .now) (le-refl _)) ∙ append-nil _
+    l .inv .1 ∙ ap (λ (n : ℕ). replicate n (a .none .0) ++ drop n (a .table .now)) all
+    ∙ ap (λ (t : List ℕ). replicate (length (a .table .now)) (a .none .0) ++ t) (drop-of-length-le (a .table .now) (le-refl _)) ∙ append-nil _
 
 pub clear-spec : {M : Type 1} → statement M
 clear-spec =

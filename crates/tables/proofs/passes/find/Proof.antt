@@ -8,7 +8,7 @@ use Rattle.tables.proofs.passes.find.Statement.{statement}
 use Rattle.tables.proofs.passes.find.Tie as tie
 
 abbrev Inv-loop : tie.InvT-loop
-Inv-loop table from last k p₀ p = (from ≤ p) × (p ≤ last) × Without k k table from p
+Inv-loop table from last k p₀ p = (from ≤ p) × (p ≤ last) × Without (k .0) (k .0) table from p
 
 abbrev μ-loop : tie.MeasureT-loop
 μ-loop table from last k p₀ p = last - p
@@ -24,7 +24,7 @@ shared-slice-read-if1 c = search needs
 
 returns : tie.Need-returns Inv-loop μ-loop
 returns c =
-    let l = c .before .before .before .loop in
+    let l = c .before .before .before .before .loop in
     record { behind = l .inv .0; inside = l .inv .1; without = l .inv .2; stops = λ before. c .if1 .taken }
 
 add-p : tie.Need-add-p Inv-loop μ-loop
@@ -35,7 +35,7 @@ loop-less c = search needs
 
 loop-again : tie.Need-loop-again Inv-loop μ-loop
 loop-again c =
-    let l = c .before .before .before .loop in
+    let l = c .before .before .before .before .loop in
     (omega arith, omega arith, below-more _ _ (l .inv .2) (λ behind low high. c .if1 .left (omega arith)))
 
 returns-2 : tie.Need-returns-2 Inv-loop μ-loop

@@ -11,7 +11,7 @@ use Rattle.tables.proofs.passes.level_after.Tie as tie
 
 abbrev Inv-loop : tie.InvT-loop
 Inv-loop table k none least₀ i₀ least i =
-    (i ≤ length table) × (k < least) × (least ≤ none) × ((p : ℕ) → p < i → k < entry table p → least ≤ entry table p)
+    (i ≤ length table) × (k .0 < least) × (least ≤ none) × ((p : ℕ) → p < i → k .0 < entry table p → least ≤ entry table p)
 
 abbrev μ-loop : tie.MeasureT-loop
 μ-loop table k none least₀ i₀ least i = length table - i
@@ -46,8 +46,8 @@ loop-again c =
     let start = c .before .before .before .before .before .before .before in
     let a = start .args in
     let new = c .before .above .ensures in
-    let higher : a .k < c .before .above .result =
-    elim (decLt (a .k) (entry (a .table .now) (l .i))) [
+    let higher : a .k .0 < c .before .above .result =
+    elim (decLt (a .k .0) (entry (a .table .now) (l .i))) [
       | yes high ↦ omega (arith, new .0 high)
       | no low ↦ omega (arith, new .1 (omega arith))
     ]

@@ -1,4 +1,5 @@
--- Where no entry lies above the level, a pass changes nothing. In the loop the places before the pair are visited. Those that `seek` passes over are without the level. Assumes nothing.
+-- Where no entry lies above the level, a pass changes nothing. In the loop the places before the pair are visited.
+-- Those that `seek` passes over are without the level. Assumes nothing.
 use mathlib.Core.Path.{_≡_, sym, subst}
 use Prim.Native.Nat.{ℕ, _*_, _-_, _≤_, _<_}
 use Rattle.tables.specs.Rules.{place, Rule}
@@ -14,15 +15,22 @@ use Rattle.tables.proofs.passes.pass.Statement.{statement}
 use Rattle.tables.proofs.passes.pass.Tie as tie
 
 abbrev Inv-loop : tie.InvT-loop
-Inv-loop table₀ width letters rests children-r children-s k pair₀ table pair =
-    (pair .column < width) × (place width (pair .row) (pair .column) ≤ width * width)
-    × Passes (Rule width letters rests) k (place width (pair .row) (pair .column)) table₀ table
+Inv-loop table₀ count letters rests children-r children-s k next pair₀ table pair =
+    (pair .column < count) × (place count (pair .row) (pair .column) ≤ count * count)
+    × Passes (Rule count letters rests) (k .0) (place count (pair .row) (pair .column)) table₀ table
 
 abbrev μ-loop : tie.MeasureT-loop
-μ-loop table₀ width letters rests children-r children-s k pair₀ table pair = width * width - place width (pair .row) (pair .column)
+μ-loop table₀ count letters rests children-r children-s k next pair₀ table pair = count * count - place count (pair .row) (pair .column)
 
-add-absent : tie.Need-add-absent Inv-loop μ-loop
-add-absent c = search needs
+-- the first state, from the one behind the test of the levels above, and from the loop
+abbrev begun : tie.After-absent Inv-loop μ-loop → tie.Start Inv-loop μ-loop
+begun c = c .before .before .before .before .before .before .before .before
+
+abbrev entered : tie.At-loop Inv-loop μ-loop → tie.Start Inv-loop μ-loop
+entered c = begun (c .before .before)
+
+add-next : tie.Need-add-next Inv-loop μ-loop
+add-next c = search needs
 
 absent-requires : tie.Need-absent-requires Inv-loop μ-loop
 absent-requires c κs = search needs
@@ -32,36 +40,36 @@ same-length c = search needs
 
 returns : tie.Need-returns Inv-loop μ-loop
 returns c =
-    let start = c .before .before .before .before .before .before .before .before in
+    let start = begun (c .before) in
     let a = start .args in
     let counts = start .pre .0 .counts in
     let none = told (c .before .absent .result) (c .if1 .taken) (c .before .absent .ensures) in
     passes-low
-    (λ p inside. elim (decLt (a .k) (entry (a .table .now) p)) [
+    (λ p inside. elim (decLt (a .k .0) (entry (a .table .now) p)) [
       | yes above ↦ absurd (none p inside (omega arith) (omega arith) (omega (arith, counts .high p (omega (arith, counts .long)))))
       | no low ↦ omega arith
     ])
-    (a .width * a .width)
+    (a .count * a .count)
 
 loop-holds : tie.Need-loop-holds Inv-loop μ-loop
 loop-holds c =
-    let start = c .before .before .before .before .before .before .before .before in
+    let start = begun (c .before) in
     let a = start .args in
-    let first : 0 ≡ place (a .width) 0 0 = omega arith in
-    let rules = Rule (a .width) (a .letters .now) (a .rests .now) in
-    (start .pre .1 .1, omega arith, subst (λ (z : ℕ). Passes rules (a .k) z (a .table .now) (a .table .now)) first begin)
+    let first : 0 ≡ place (a .count) 0 0 = omega arith in
+    let rules = Rule (a .count) (a .letters .now) (a .rests .now) in
+    (start .pre .1 .1, omega arith, subst (λ (z : ℕ). Passes rules (a .k .0) z (a .table .now) (a .table .now)) first begin)
 
 seek-requires : tie.Need-seek-requires Inv-loop μ-loop
 seek-requires c κs =
     let at-loop = c .before .before .before in
-    let start = at-loop .before .before .before .before .before .before .before .before .before in
+    let start = entered at-loop in
     (passes-ready (start .pre .0) (at-loop .loop .inv .2), (c .before .if2 .taken, at-loop .loop .inv .0))
 
 visit-requires : tie.Need-visit-requires Inv-loop μ-loop
 visit-requires c κs =
     let at-if2 = c .before .before .before in
     let at-loop = at-if2 .before .before in
-    let start = at-loop .before .before .before .before .before .before .before .before .before in
+    let start = entered at-loop in
     let p = start .pre in
     (passes-ready (p .0) (at-loop .loop .inv .2), (p .1 .0, (at-if2 .if2 .taken, omega (arith, c .before .seek .ensures .inside, p .1 .1))))
 
@@ -69,7 +77,7 @@ next-pair-requires : tie.Need-next-pair-requires Inv-loop μ-loop
 next-pair-requires c κs =
     let at-seek = c .before .before .before .before in
     let at-if2 = at-seek .before .before in
-    let start = at-if2 .before .before .before .before .before .before .before .before .before .before .before in
+    let start = entered (at-if2 .before .before) in
     let p = start .pre in
     (p .0 .few, (at-if2 .if2 .taken, omega (arith, at-seek .seek .ensures .inside, p .1 .1)))
 
@@ -78,10 +86,10 @@ loop-less c =
     let at-seek = c .before .before .before .before .before in
     let at-if2 = at-seek .before .before in
     let at-loop = at-if2 .before .before in
-    let start = at-loop .before .before .before .before .before .before .before .before .before in
-    let w = start .args .width in
+    let start = entered at-loop in
+    let count = start .args .count in
     let l = at-loop .loop in
-    let inside : place w (l .pair .row) (l .pair .column) < w * w = place-inside (at-if2 .if2 .taken) (l .inv .0) in
+    let inside : place count (l .pair .row) (l .pair .column) < count * count = place-inside (at-if2 .if2 .taken) (l .inv .0) in
     omega (arith, c .next-pair .ensures .0, at-seek .seek .ensures .behind)
 
 loop-again : tie.Need-loop-again Inv-loop μ-loop
@@ -90,15 +98,15 @@ loop-again c =
     let at-seek = at-visit .before .before in
     let at-if2 = at-seek .before .before in
     let at-loop = at-if2 .before .before in
-    let start = at-loop .before .before .before .before .before .before .before .before .before in
+    let start = entered at-loop in
     let a = start .args in
     let l = at-loop .loop in
     let sought = at-seek .seek .ensures in
-    let rules = Rule (a .width) (a .letters .now) (a .rests .now) in
-    let last : place (a .width) (l .pair .row) (a .width - 1) < a .width * a .width = place-inside (at-if2 .if2 .taken) (omega (arith, start .pre .1 .1)) in (
+    let rules = Rule (a .count) (a .letters .now) (a .rests .now) in
+    let last : place (a .count) (l .pair .row) (a .count - 1) < a .count * a .count = place-inside (at-if2 .if2 .taken) (omega (arith, start .pre .1 .1)) in (
       c .next-pair .ensures .1,
       omega (arith, c .next-pair .ensures .0, sought .inside),
-      subst (λ (z : ℕ). Passes rules (a .k) z (a .table .now) (at-visit .visit .last .0)) (sym (c .next-pair .ensures .0))
+      subst (λ (z : ℕ). Passes rules (a .k .0) z (a .table .now) (at-visit .visit .last .0)) (sym (c .next-pair .ensures .0))
           (visit (passes-over (sought .behind) (sought .without) (l .inv .2)) (at-visit .visit .ensures)),
     )
 
@@ -108,12 +116,12 @@ same-length-2 c = passes-length (c .before .before .loop .inv .2)
 returns-2 : tie.Need-returns-2 Inv-loop μ-loop
 returns-2 c =
     let at-loop = c .before .before in
-    let start = at-loop .before .before .before .before .before .before .before .before .before in
+    let start = entered at-loop in
     let a = start .args in
     let l = at-loop .loop in
-    let past : a .width * a .width ≤ place (a .width) (l .pair .row) (l .pair .column) = place-past (l .pair .column) (c .if2 .left) in
-    let end : place (a .width) (l .pair .row) (l .pair .column) ≡ a .width * a .width = omega (arith, l .inv .1) in
-    subst (λ (z : ℕ). Passes (Rule (a .width) (a .letters .now) (a .rests .now)) (a .k) z (a .table .now) (l .table)) end (l .inv .2)
+    let past : a .count * a .count ≤ place (a .count) (l .pair .row) (l .pair .column) = place-past (l .pair .column) (c .if2 .left) in
+    let end : place (a .count) (l .pair .row) (l .pair .column) ≡ a .count * a .count = omega (arith, l .inv .1) in
+    subst (λ (z : ℕ). Passes (Rule (a .count) (a .letters .now) (a .rests .now)) (a .k .0) z (a .table .now) (l .table)) end (l .inv .2)
 
 pub pass-spec : {M : Type 1} → statement M
 pass-spec =
@@ -121,7 +129,7 @@ pass-spec =
     (tie.spec
     Inv-loop
     μ-loop
-    add-absent
+    add-next
     absent-requires
     same-length
     returns

@@ -11,8 +11,8 @@ use native.Mathlib.Omega.{arith}
 use Rattle.tables.proofs.passes.seek.Statement.{statement}
 use Rattle.tables.proofs.passes.seek.Tie as tie
 
-cell-requires : tie.Need-cell-requires
-cell-requires c κs = search needs
+place-of-requires : tie.Need-place-of-requires
+place-of-requires c κs = search needs
 
 add-absent : tie.Need-add-absent
 add-absent c = search needs
@@ -20,14 +20,14 @@ add-absent c = search needs
 absent-requires : tie.Need-absent-requires
 absent-requires c κs =
     let p = c .before .before .before .pre in
-    (omega arith, omega (arith, c .before .cell .ensures .0, row-inside (p .1 .0), p .0 .counts .long))
+    (omega arith, omega (arith, c .before .place-of .ensures .0, row-inside (p .1 .0), p .0 .counts .long))
 
 sub-result : tie.Need-sub-result
 sub-result c = search needs
 
 returns : tie.Need-returns
 returns c =
-    let row = c .before .before .before .cell .ensures .0 in
+    let row = c .before .before .before .place-of .ensures .0 in
     let start = c .before .before .before .before .before in
     let none = told (c .before .absent .result) (c .if2 .taken) (c .before .absent .ensures) in
     record {
@@ -49,18 +49,18 @@ sub-find c = search needs
 find-requires : tie.Need-find-requires
 find-requires c κs =
     let p = c .before .before .before .pre in
-    (omega (arith, p .1 .1), omega (arith, c .before .cell .ensures .0, row-inside (p .1 .0), p .0 .counts .long))
+    (omega (arith, p .1 .1), omega (arith, c .before .place-of .ensures .0, row-inside (p .1 .0), p .0 .counts .long))
 
 sub-result-2 : tie.Need-sub-result-2
 sub-result-2 c = search needs
 
 returns-2 : tie.Need-returns-2
 returns-2 c =
-    let row = c .before .before .cell .ensures .0 in
+    let row = c .before .before .place-of .ensures .0 in
     let start = c .before .before .before .before in
     let a = start .args in
     let found = c .find .ensures in
-    let here : place (a .width) (a .x) (c .find .result - c .before .before .cell .result) ≡ c .find .result = omega (arith, row, found .behind) in
+    let here : place (a .count) (a .x) (c .find .result - c .before .before .place-of .result) ≡ c .find .result = omega (arith, row, found .behind) in
     record {
       behind = omega (arith, row, found .behind);
       inside = omega (arith, row, found .inside);
@@ -72,7 +72,7 @@ pub seek-spec : {M : Type 1} → statement M
 seek-spec =
     tie.close
     (tie.spec
-    cell-requires
+    place-of-requires
     add-absent
     absent-requires
     sub-result

@@ -38,10 +38,10 @@ same-length c = search needs
 
 returns : tie.Need-returns
 returns c =
-    let start = c .before .before .before .before in
+    let start = c .before .before .before .before .before in
     let a = start .args in
     let t = a .table .now in
-    subst (λ (v : ℕ). Relaxed (a .k) (Only (a .from) (a .to)) t (set t (a .to) v)) (sym (c .lesser .ensures))
+    subst (λ (v : ℕ). Relaxed (a .k .0) (Only (a .from) (a .to)) t (set t (a .to) v)) (sym (c .lesser .ensures))
     (relaxed-one t (a .from) (a .to) refl (start .pre .1 .0))
 
 pub lower-spec : {M : Type 1} → statement M

@@ -1,10 +1,9 @@
--- Stored where the level is less; the entry one past the end is 0. Assumes nothing.
-use mathlib.Core.Path.{_≡_}
-use Prim.Native.Nat.{_+_}
-use native.Mathlib.Nat.{le-refl}
-use lib.ListN.{length, List·getD-eq-default}
+-- What is stored, or stays, is the lesser of the two. Assumes nothing.
+use mathlib.Core.Path.{_≡_, sym, ap, _∙_}
+use Prim.Native.Nat.{min}
+use lib.ListN.{set}
+use lib.Seq.{set-getD}
 use Rattle.levels.specs.Levels.{entry}
-use Rattle.levels.proofs.Relaxing.{relaxed-one-stores, relaxed-one-stays}
 use borrow.Author.Needs.{needs}
 use native.Mathlib.Omega.{arith}
 use Rattle.tables.proofs.relaxing.relax.Statement.{statement}
@@ -27,17 +26,15 @@ same-length c = search needs
 
 returns : tie.Need-returns
 returns c =
-    let a = c .before .before .args in
-    let t = a .table .now in
-    let sum : a .k ≡ a .k + entry t (length t) = omega (arith, List·getD-eq-default t 0 {n = length t} (le-refl _)) in
-    relaxed-one-stores t (length t) (a .to) sum (c .before .before .pre) (c .if1 .taken)
+    let a = c .before .before .before .args in
+    let new : min (entry (a .table .now) (a .to)) (a .k .0) ≡ a .k .0 = omega arith in
+    ap (set (a .table .now) (a .to)) (sym new)
 
 returns-2 : tie.Need-returns-2
 returns-2 c =
-    let a = c .before .before .args in
-    let t = a .table .now in
-    let sum : a .k ≡ a .k + entry t (length t) = omega (arith, List·getD-eq-default t 0 {n = length t} (le-refl _)) in
-    relaxed-one-stays t (length t) (a .to) sum (c .if1 .left)
+    let a = c .before .before .before .args in
+    let old : min (entry (a .table .now) (a .to)) (a .k .0) ≡ entry (a .table .now) (a .to) = omega arith in
+    sym (ap (set (a .table .now) (a .to)) old ∙ set-getD (a .table .now) (a .to) 0)
 
 pub relax-spec : {M : Type 1} → statement M
 relax-spec =

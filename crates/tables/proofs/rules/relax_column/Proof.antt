@@ -12,10 +12,10 @@ use Rattle.tables.proofs.rules.relax_column.Statement.{statement}
 use Rattle.tables.proofs.rules.relax_column.Tie as tie
 
 abbrev Inv-loop : tie.InvT-loop
-Inv-loop table₀ width x y k i₀ table i = (i ≤ width) × Relaxed k (Upto (ColumnTurn width x y) i) table₀ table
+Inv-loop table₀ count x y k i₀ table i = (i ≤ count) × Relaxed (k .0) (Upto (ColumnTurn count x y) i) table₀ table
 
 abbrev μ-loop : tie.MeasureT-loop
-μ-loop table₀ width x y k i₀ table i = width - i
+μ-loop table₀ count x y k i₀ table i = count - i
 
 loop-holds : tie.Need-loop-holds Inv-loop μ-loop
 loop-holds c = (omega arith, relaxed-begins)
@@ -37,8 +37,10 @@ relax-in-column-requires-2 c κs =
     let at-first = c .before .before .before in
     let at-loop = at-first .before .before .before in
     let start = at-loop .before .before in
-    let p = start .pre in
-    (ready-relaxed (ready-relaxed (p .0) (at-loop .loop .inv .1)) (at-first .relax-in-column .ensures), (p .1 .0, (p .1 .1, at-first .before .before .loop-test .taken)))
+    let p = start .pre in (
+      ready-relaxed (ready-relaxed (p .0) (at-loop .loop .inv .1)) (at-first .relax-in-column .ensures),
+      (p .1 .0, (p .1 .1, at-first .before .before .loop-test .taken)),
+    )
 
 add-i : tie.Need-add-i Inv-loop μ-loop
 add-i c = search needs
@@ -53,7 +55,7 @@ loop-again c =
     let at-loop = at-first .before .before .before in
     let start = at-loop .before .before in
     let a = start .args in
-    let turn = ColumnTurn (a .width) (a .x) (a .y) in
+    let turn = ColumnTurn (a .count) (a .x) (a .y) in
     let i = at-loop .loop .i in
     let first = relaxed-turn {Y = turn} (at-loop .loop .inv .1) (at-first .relax-in-column .ensures) in
     (omega arith, relaxed-all turn (i + 1 + 1) (i + 2) (omega arith) (relaxed-turn {Y = turn} first (at-second .relax-in-column2 .ensures)))
@@ -75,9 +77,9 @@ returns c =
     let at-last = c .before .before in
     let at-loop = at-last .before .before .before .before in
     let a = at-loop .before .before .args in
-    let turn = ColumnTurn (a .width) (a .x) (a .y) in
+    let turn = ColumnTurn (a .count) (a .x) (a .y) in
     let i = at-loop .loop .i in
-    relaxed-all turn (i + 1) (a .width) (omega arith) (relaxed-turn {Y = turn} (at-loop .loop .inv .1) (at-last .relax-in-column3 .ensures))
+    relaxed-all turn (i + 1) (a .count) (omega arith) (relaxed-turn {Y = turn} (at-loop .loop .inv .1) (at-last .relax-in-column3 .ensures))
 
 same-length-2 : tie.Need-same-length-2 Inv-loop μ-loop
 same-length-2 c = lowers-length (c .before .before .loop .inv .1 .lowers)
@@ -86,7 +88,7 @@ returns-2 : tie.Need-returns-2 Inv-loop μ-loop
 returns-2 c =
     let at-loop = c .before .before in
     let a = at-loop .before .before .args in
-    relaxed-all (ColumnTurn (a .width) (a .x) (a .y)) (at-loop .loop .i) (a .width) (omega arith) (at-loop .loop .inv .1)
+    relaxed-all (ColumnTurn (a .count) (a .x) (a .y)) (at-loop .loop .i) (a .count) (omega arith) (at-loop .loop .inv .1)
 
 pub relax-column-spec : {M : Type 1} → statement M
 relax-column-spec =

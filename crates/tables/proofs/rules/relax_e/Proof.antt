@@ -16,8 +16,8 @@ returns c =
     let start = at-child .before .before .before .before .before in
     none-joined (not-found (child-front (start .pre .1) (at-child .child .ensures)) (c .if1 .taken))
 
-tail-requires : tie.Need-tail-requires
-tail-requires c κs =
+rest-after-requires : tie.Need-rest-after-requires
+rest-after-requires c κs =
     let start = c .before .before .before .before .before .before .before in
     let linked = start .pre .1 in (linked .followed .room-letters, linked .followed .room-rests)
 
@@ -32,11 +32,11 @@ same-length c = lowers-length (c .before .before .relax-triples .ensures .lowers
 returns-2 : tie.Need-returns-2
 returns-2 c =
     let at-relax-triples = c .before .before in
-    let at-tail = at-relax-triples .before in
-    let at-child = at-tail .before .before .before in
+    let at-rest-after = at-relax-triples .before in
+    let at-child = at-rest-after .before .before .before in
     let start = at-child .before .before .before .before .before in
     let a = start .args in
-    joined {Y = Triples (a .width) (a .letters .now) (a .rests .now)} (child-front (start .pre .1) (at-child .child .ensures)) (at-tail .tail .ensures)
+    joined {Y = Triples (a .count) (a .letters .now) (a .rests .now)} (child-front (start .pre .1) (at-child .child .ensures)) (at-rest-after .rest-after .ensures)
     (at-relax-triples .relax-triples .ensures)
 
 pub relax-e-spec : {M : Type 1} → statement M
@@ -45,7 +45,7 @@ relax-e-spec =
     (tie.spec
     child-requires
     returns
-    tail-requires
+    rest-after-requires
     relax-triples-requires
     same-length
     returns-2)

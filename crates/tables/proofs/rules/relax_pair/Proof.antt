@@ -51,7 +51,7 @@ returns c =
     let start = at-relax-f .before .before .before .before .before .before .before in
     let a = start .args in
     let p = start .pre in
-    pair-relaxed (a .width) (a .letters .now) (a .rests .now) (p .1 .0 .s .followed .rest-earlier) (a .x) (a .y) (p .1 .1 .0) (p .1 .1 .1)
+    pair-relaxed (a .count) (a .letters .now) (a .rests .now) (p .1 .0 .s .followed .rest-earlier) (a .x) (a .y) (p .1 .1 .0) (p .1 .1 .1)
     (at-relax-f .relax-f .ensures) (at-relax-r .relax-r .ensures) (at-relax-s .relax-s .ensures) (at-relax-e .relax-e .ensures)
 
 pub relax-pair-spec : {M : Type 1} → statement M

@@ -7,6 +7,13 @@ use Rattle.tables.proofs.Steps.{ready-relaxed}
 use Rattle.tables.proofs.rules.relax_r.Statement.{statement}
 use Rattle.tables.proofs.rules.relax_r.Tie as tie
 
+-- Earlier states, each from a later one.
+abbrev begun : tie.After-child → tie.Start
+begun c = c .before .before .before .before .before
+
+abbrev found : tie.After-relax-at → tie.After-child
+found c = c .before .before .before .before
+
 child-requires : tie.Need-child-requires
 child-requires c κs =
     let start = c .before .before .before .before in
@@ -15,30 +22,24 @@ child-requires c κs =
 returns : tie.Need-returns
 returns c =
     let at-child = c .before in
-    let start = at-child .before .before .before .before .before in
+    let start = begun at-child in
     let none = not-found (child-front (start .pre .1) (at-child .child .ensures)) (c .if1 .taken) in
     relaxed-then (none-joined none) (none-joined none)
 
-tail-requires : tie.Need-tail-requires
-tail-requires c κs =
-    let start = c .before .before .before .before .before .before .before in
-    let linked = start .pre .1 in (linked .followed .room-letters, linked .followed .room-rests)
+rest-after-requires : tie.Need-rest-after-requires
+rest-after-requires c κs =
+    let linked = begun (c .before .before) .pre .1 in (linked .followed .room-letters, linked .followed .room-rests)
 
 relax-at-requires : tie.Need-relax-at-requires
-relax-at-requires c κs =
-    let start = c .before .before .before .before .before .before .before .before in
-    start .pre .0
+relax-at-requires c κs = begun (c .before .before .before) .pre .0
 
 child-requires-2 : tie.Need-child-requires-2
-child-requires-2 c κs =
-    let start = c .before .before .before .before .before .before .before .before .before .before .before .before in
-    start .pre .1 .followed .room-children
+child-requires-2 c κs = begun (found (c .before .before .before)) .pre .1 .followed .room-children
 
 relax-at-requires-2 : tie.Need-relax-at-requires-2
 relax-at-requires-2 c κs =
     let at-relax-at = c .before .before .before .before in
-    let start = at-relax-at .before .before .before .before .before .before .before .before .before in
-    ready-relaxed (start .pre .0) (at-relax-at .relax-at .ensures)
+    ready-relaxed (begun (found at-relax-at) .pre .0) (at-relax-at .relax-at .ensures)
 
 same-length : tie.Need-same-length
 same-length c =
@@ -51,16 +52,16 @@ returns-2 c =
     let at-relax-at2 = c .before .before in
     let at-child2 = at-relax-at2 .before in
     let at-relax-at = at-child2 .before .before .before .before in
-    let at-tail = at-relax-at .before in
-    let at-child = at-tail .before .before .before in
-    let start = at-child .before .before .before .before .before in
-    let w = start .args .width in
+    let at-rest-after = at-relax-at .before in
+    let at-child = found at-relax-at in
+    let start = begun at-child in
+    let count = start .args .count in
     let linked = start .pre .1 in
     let front = child-front linked (at-child .child .ensures) in
     let front-y = child-front linked (at-child2 .child2 .ensures) in
     relaxed-then
-    (joined {Y = One w} front (at-tail .tail .ensures) (at-relax-at .relax-at .ensures))
-    (joined {Y = One w} front front-y (at-relax-at2 .relax-at2 .ensures))
+    (joined {Y = One count} front (at-rest-after .rest-after .ensures) (at-relax-at .relax-at .ensures))
+    (joined {Y = One count} front front-y (at-relax-at2 .relax-at2 .ensures))
 
 pub relax-r-spec : {M : Type 1} → statement M
 relax-r-spec =
@@ -68,7 +69,7 @@ relax-r-spec =
     (tie.spec
     child-requires
     returns
-    tail-requires
+    rest-after-requires
     relax-at-requires
     child-requires-2
     relax-at-requires-2

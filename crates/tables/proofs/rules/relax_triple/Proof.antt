@@ -14,52 +14,64 @@ use native.Mathlib.Omega.{arith}
 use Rattle.tables.proofs.rules.relax_triple.Statement.{statement}
 use Rattle.tables.proofs.rules.relax_triple.Tie as tie
 
+-- the states before b's rest is read
+abbrev tested : tie.After-wide → tie.Then1
+tested c = c .before .before
+
+abbrev begun : tie.Then1 → tie.Start
+begun c = c .before .before .before .before .before
+
 -- b's rest is a node
-rest-below : (c : tie.After-node) → c .node .result < c .before .before .before .before .before .before .args .width
+rest-below : (c : tie.After-wide) → c .wide .result < begun (tested c) .args .count
 rest-below c =
-    let start = c .before .before .before .before .before .before in
+    let at-if1 = tested c in
+    let start = begun at-if1 in
     let a = start .args in
     let p = start .pre in
-    let begins = told _ (c .before .if1 .taken) (c .before .before .begins .ensures) in
-    omega (arith, c .node .ensures, rest-inside (a .width) (a .letters .now) (a .rests .now) (p .1 .1 .1 .0) (a .b) (begins .0) (p .1 .1 .1 .1 .1 .1))
+    let begins = told _ (at-if1 .if1 .taken) (at-if1 .before .begins .ensures) in
+    omega (arith, c .wide .ensures, rest-inside (a .count) (a .letters .now) (a .rests .now) (p .1 .1 .1 .0) (a .b) (begins .0) (p .1 .1 .1 .1 .1 .1))
 
 begins-requires : tie.Need-begins-requires
 begins-requires c κs = search needs
 
-node-requires : tie.Need-node-requires
-node-requires c κs = search needs
+mul-wide : tie.Need-mul-wide
+mul-wide c = search needs
 
-cell-requires : tie.Need-cell-requires
-cell-requires c κs = search needs
+shared-slice-read-wide : tie.Need-shared-slice-read-wide
+shared-slice-read-wide c = search needs
 
-cell-requires-2 : tie.Need-cell-requires-2
-cell-requires-2 c κs =
-    let at-node = c .before .before in
-    let p = at-node .before .before .before .before .before .before .pre in (p .0 .few, (p .1 .1 .1 .1 .0, rest-below at-node))
+wide-requires : tie.Need-wide-requires
+wide-requires c κs = search needs
+
+place-of-requires : tie.Need-place-of-requires
+place-of-requires c κs = search needs
+
+place-of-requires-2 : tie.Need-place-of-requires-2
+place-of-requires-2 c κs =
+    let at-wide = c .before .before in
+    let p = begun (tested at-wide) .pre in (p .0 .few, (p .1 .1 .1 .1 .0, rest-below at-wide))
 
 relax-from-requires : tie.Need-relax-from-requires
 relax-from-requires c κs =
-    let start = c .before .before .before .before .before .before .before .before .before in
-    let ready = start .pre .0 in (
-      omega (arith, c .before .cell .ensures .1, ready .counts .long),
-      (omega (arith, c .cell2 .ensures .1, ready .counts .long), sum-fits ready (c .before .cell .ensures .1)),
+    let ready = begun (tested (c .before .before .before)) .pre .0 in (
+      omega (arith, c .before .place-of .ensures .1, ready .counts .long),
+      (omega (arith, c .place-of2 .ensures .1, ready .counts .long), sum-fits ready (c .before .place-of .ensures .1)),
     )
 
-cell-requires-3 : tie.Need-cell-requires-3
-cell-requires-3 c κs =
-    let at-node = c .before .before .before .before .before .before .before in
-    let p = at-node .before .before .before .before .before .before .pre in (p .0 .few, (rest-below at-node, p .1 .1 .1 .1 .0))
+place-of-requires-3 : tie.Need-place-of-requires-3
+place-of-requires-3 c κs =
+    let at-wide = c .before .before .before .before .before .before .before in
+    let p = begun (tested at-wide) .pre in (p .0 .few, (rest-below at-wide, p .1 .1 .1 .1 .0))
 
-cell-requires-4 : tie.Need-cell-requires-4
-cell-requires-4 c κs = search needs
+place-of-requires-4 : tie.Need-place-of-requires-4
+place-of-requires-4 c κs = search needs
 
 relax-from-requires-2 : tie.Need-relax-from-requires-2
 relax-from-requires-2 c κs =
     let at-relax-from = c .before .before .before .before .before in
-    let start = at-relax-from .before .before .before .before .before .before .before .before .before .before in
-    let ready = ready-relaxed (start .pre .0) (at-relax-from .relax-from .ensures) in (
-      omega (arith, c .before .cell3 .ensures .1, ready .counts .long),
-      (omega (arith, c .cell4 .ensures .1, ready .counts .long), sum-fits ready (c .before .cell3 .ensures .1)),
+    let ready = ready-relaxed (begun (tested (at-relax-from .before .before .before .before)) .pre .0) (at-relax-from .relax-from .ensures) in (
+      omega (arith, c .before .place-of3 .ensures .1, ready .counts .long),
+      (omega (arith, c .place-of4 .ensures .1, ready .counts .long), sum-fits ready (c .before .place-of3 .ensures .1)),
     )
 
 same-length : tie.Need-same-length
@@ -71,28 +83,29 @@ same-length c =
 returns : tie.Need-returns
 returns c =
     let at-second = c .before .before in
-    let at-cell4 = at-second .before in
-    let at-cell3 = at-cell4 .before in
-    let at-first = at-cell3 .before .before .before .before in
-    let at-cell2 = at-first .before in
-    let at-cell = at-cell2 .before in
-    let at-node = at-cell .before .before in
-    let at-if1 = at-node .before in
-    let start = at-if1 .before .before .before .before .before in
+    let at-place-of4 = at-second .before in
+    let at-place-of3 = at-place-of4 .before in
+    let at-first = at-place-of3 .before .before .before .before in
+    let at-place-of2 = at-first .before in
+    let at-place-of = at-place-of2 .before in
+    let at-wide = at-place-of .before .before in
+    let at-if1 = tested at-wide in
+    let start = begun at-if1 in
     let a = start .args in
     let p = start .pre in
-    let w = a .width in
+    let count = a .count in
     let begins = told _ (at-if1 .if1 .taken) (at-if1 .before .begins .ensures) in
     let below = p .1 .1 .1 .1 .1 .1 in
-    let rest = at-node .node .ensures in
-    found-relaxed (λ t q d. Only (place w (a .v) (a .b)) (place w (a .a) t) q d ⊎ Only (place w t (a .a)) (place w (a .b) (a .v)) q d)
+    let rest = at-wide .wide .ensures in
+    found-relaxed (λ t q d. Only (place count (a .v) (a .b)) (place count (a .a) t) q d ⊎ Only (place count t (a .a)) (place count (a .b) (a .v)) q d)
     (rest-front (a .letters .now) (a .rests .now) (a .b) below begins)
-    (omega (arith, rest, rest-below at-node))
+    (omega (arith, rest, rest-below at-wide))
     (relaxed-then
-    (relaxed-at (at-cell .cell .result) _ (at-cell2 .cell2 .result) _ (at-cell .cell .ensures .0)
-    (at-cell2 .cell2 .ensures .0 ∙ ap (place w (a .a)) rest) (at-first .relax-from .ensures))
-    (relaxed-at (at-cell3 .cell3 .result) _ (at-cell4 .cell4 .result) _ (at-cell3 .cell3 .ensures .0 ∙ ap (λ (t : ℕ). place w t (a .a)) rest)
-    (at-cell4 .cell4 .ensures .0) (at-second .relax-from2 .ensures)))
+    (relaxed-at (at-place-of .place-of .result) _ (at-place-of2 .place-of2 .result) _ (at-place-of .place-of .ensures .0)
+    (at-place-of2 .place-of2 .ensures .0 ∙ ap (place count (a .a)) rest) (at-first .relax-from .ensures))
+    (relaxed-at (at-place-of3 .place-of3 .result) _ (at-place-of4 .place-of4 .result) _
+    (at-place-of3 .place-of3 .ensures .0 ∙ ap (λ (t : ℕ). place count t (a .a)) rest)
+    (at-place-of4 .place-of4 .ensures .0) (at-second .relax-from2 .ensures)))
 
 returns-2 : tie.Need-returns-2
 returns-2 c =
@@ -106,12 +119,14 @@ relax-triple-spec =
     tie.close
     (tie.spec
     begins-requires
-    node-requires
-    cell-requires
-    cell-requires-2
+    mul-wide
+    shared-slice-read-wide
+    wide-requires
+    place-of-requires
+    place-of-requires-2
     relax-from-requires
-    cell-requires-3
-    cell-requires-4
+    place-of-requires-3
+    place-of-requires-4
     relax-from-requires-2
     same-length
     returns

@@ -11,20 +11,20 @@ use Rattle.tables.proofs.rules.relax_triples.Statement.{statement}
 use Rattle.tables.proofs.rules.relax_triples.Tie as tie
 
 abbrev Inv-loop : tie.InvT-loop
-Inv-loop table₀ width letters rests a v k b₀ table b = (b ≤ width) × Relaxed k (Upto (TripleTurn width letters rests a v) b) table₀ table
+Inv-loop table₀ count letters rests a v k b₀ table b = (b ≤ count) × Relaxed (k .0) (Upto (TripleTurn count letters rests a v) b) table₀ table
 
 abbrev μ-loop : tie.MeasureT-loop
-μ-loop table₀ width letters rests a v k b₀ table b = width - b
+μ-loop table₀ count letters rests a v k b₀ table b = count - b
 
 returns : tie.Need-returns Inv-loop μ-loop
 returns c =
     let start = c .before .before .before .before in
-    let a = start .args in outside-relaxed (Triples (a .width) (a .letters .now) (a .rests .now)) (λ row column. omega arith)
+    let a = start .args in outside-relaxed (Triples (a .count) (a .letters .now) (a .rests .now)) (λ row column. omega arith)
 
 returns-2 : tie.Need-returns-2 Inv-loop μ-loop
 returns-2 c =
     let start = c .before .before .before .before .before in
-    let a = start .args in outside-relaxed (Triples (a .width) (a .letters .now) (a .rests .now)) (λ row column. omega arith)
+    let a = start .args in outside-relaxed (Triples (a .count) (a .letters .now) (a .rests .now)) (λ row column. omega arith)
 
 loop-holds : tie.Need-loop-holds Inv-loop μ-loop
 loop-holds c = (omega arith, relaxed-begins)
@@ -50,7 +50,7 @@ loop-again c =
     let at-loop = at-relax-triple .before .before .before in
     let start = at-loop .before .before .before .before .before .before in
     let a = start .args in
-    let turn = TripleTurn (a .width) (a .letters .now) (a .rests .now) (a .a) (a .v) in
+    let turn = TripleTurn (a .count) (a .letters .now) (a .rests .now) (a .a) (a .v) in
     (omega arith, relaxed-turn {Y = turn} (at-loop .loop .inv .1) (at-relax-triple .relax-triple .ensures))
 
 same-length : tie.Need-same-length Inv-loop μ-loop
@@ -62,9 +62,9 @@ returns-3 c =
     let at-if1 = at-if2 .before in
     let start = at-if1 .before .before .before .before in
     let a = start .args in
-    let turn = TripleTurn (a .width) (a .letters .now) (a .rests .now) (a .a) (a .v) in
-    inside-relaxed (Triples (a .width) (a .letters .now) (a .rests .now)) (at-if1 .if1 .left) (at-if2 .if2 .left)
-    (relaxed-all turn (c .before .loop .b) (a .width) (omega arith) (c .before .loop .inv .1))
+    let turn = TripleTurn (a .count) (a .letters .now) (a .rests .now) (a .a) (a .v) in
+    inside-relaxed (Triples (a .count) (a .letters .now) (a .rests .now)) (at-if1 .if1 .left) (at-if2 .if2 .left)
+    (relaxed-all turn (c .before .loop .b) (a .count) (omega arith) (c .before .loop .inv .1))
 
 pub relax-triples-spec : {M : Type 1} → statement M
 relax-triples-spec =

@@ -16,7 +16,7 @@ entry-requires : tie.Need-entry-requires
 entry-requires c κs = search needs
 
 returns-2 : tie.Need-returns-2
-returns-2 c = c .entry .ensures ∙ sym (end-before-later (c .before .before .before .args .ends .now) _ (omega arith))
+returns-2 c = c .entry .ensures .0 ∙ sym (end-before-later (c .before .before .before .args .ends .now) _ (omega arith))
 
 pub end-before-spec : {M : Type 1} → statement M
 end-before-spec = tie.close (tie.spec returns sub-entry entry-requires returns-2)

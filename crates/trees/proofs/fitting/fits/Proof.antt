@@ -6,6 +6,13 @@ use borrow.Author.Needs.{needs}
 use Rattle.trees.proofs.fitting.fits.Statement.{statement}
 use Rattle.trees.proofs.fitting.fits.Tie as tie
 
+-- Earlier states, each from a later one.
+abbrev begun : tie.Else1 → tie.Start
+begun c = c .before .before .before .before .before .before .before .before
+
+abbrev first-test : tie.After-ends-fit → tie.Else1
+first-test c = c .before .before .before .before .before .before
+
 returns : tie.Need-returns
 returns c = search needs
 
@@ -29,12 +36,12 @@ ends-fit-requires c κs = search needs
 
 returns-7 : tie.Need-returns-7
 returns-7 c =
-    let a = c .before .before .before .before .before .before .before .before .before .before .before .before .before .before .args in
+    let a = begun (first-test c) .args in
     tells-same
     (c .ends-fit .result)
     (λ fit.
     record {
-      few = c .before .before .before .before .before .before .if1 .left;
+      few = first-test c .if1 .left;
       rising = ends-rise (a .ends .now) (length (a .bytes .now)) fit;
       within = λ j h. fit j h .within;
       room-letters = c .before .before .before .before .before .if2 .left;

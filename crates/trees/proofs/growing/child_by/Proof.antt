@@ -15,7 +15,7 @@ returns : tie.Need-returns
 returns c = λ a b differ is.
     let start = c .before .before .before .before .before .before .before in
     let x = start .args in
-    let e = c .before .entry .ensures in
+    let e = c .before .entry .ensures .0 in
     rw e
     (child-found
     differ
@@ -64,7 +64,7 @@ returns-2 c = λ a b differ is.
     (x .place .count)
     (start .pre .0)
     (x .byte)
-    (omega (arith, test .before .entry .ensures, test .if1 .left))
+    (omega (arith, test .before .entry .ensures .0, test .if1 .left))
     is
     (start .pre .1))
 

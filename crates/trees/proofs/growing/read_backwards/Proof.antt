@@ -2,7 +2,7 @@
 use mathlib.Core.Path.{_≡_, refl}
 use Prim.Native.Nat.{_+_, _-_, _≤_}
 use lib.ListN.{length}
-use Rattle.trees.specs.Growing.{tables}
+use Rattle.trees.specs.Growing.{nodeSlices}
 use Rattle.trees.proofs.Growth.{ReadTo, read-none, read-one}
 use borrow.Author.Needs.{needs}
 use native.Mathlib.Omega.{arith}
@@ -17,7 +17,8 @@ Inv-loop bytes from end letters₀ rests₀ children-r₀ children-s₀ count pl
     × (length rests ≡ length rests₀)
     × (length children-r ≡ length children-r₀)
     × (length children-s ≡ length children-s₀)
-    × ReadTo bytes end count (tables letters₀ rests₀ children-r₀ children-s₀) i (tables letters rests children-r children-s) (place .node) (place .count)
+    × ReadTo bytes end count (nodeSlices letters₀ rests₀ children-r₀ children-s₀) i (nodeSlices letters rests children-r children-s)
+    (place .node) (place .count)
 
 abbrev μ-loop : tie.MeasureT-loop
 μ-loop bytes from end letters₀ rests₀ children-r₀ children-s₀ count place₀ i₀ letters rests children-r children-s place i = i - from

@@ -5,6 +5,13 @@ use borrow.Author.Needs.{needs}
 use Rattle.trees.proofs.reading.read_generator.Statement.{statement}
 use Rattle.trees.proofs.reading.read_generator.Tie as tie
 
+-- Earlier states, each from a later one.
+abbrev begun : tie.After-entry → tie.Start
+begun c = c .before .before .before .before .before .before .before .before .before
+
+abbrev ends-read : tie.After-read-backwards → tie.After-entry
+ends-read c = c .before .before .before .before .before
+
 end-before-requires : tie.Need-end-before-requires
 end-before-requires c κs = search needs
 
@@ -14,14 +21,14 @@ entry-requires c κs = search needs
 read-backwards-requires : tie.Need-read-backwards-requires
 read-backwards-requires c κs =
     let read = c .before .before .before .before in
-    let start = read .before .before .before .before .before .before .before .before .before in
+    let start = begun read in
     let bytes = start .args .bytes .now in
     let ends = start .args .ends .now in
     let h = start .pre .0 in
     let f = start .pre .1 .0 in
     let t = start .pre .1 .1 in
     let from = read .before .end-before .ensures in
-    let end = read .entry .ensures in (
+    let end = read .entry .ensures .0 in (
       (generator-rises bytes ends f h t _ _ from end, generator-within bytes ends f h t _ _ from end),
       (generator-room bytes ends f h t _ _ from end, (t .words, t .counted, t .grown)),
     )
@@ -29,13 +36,13 @@ read-backwards-requires c κs =
 cast-wholes : tie.Need-cast-wholes
 cast-wholes c =
     let called = c .before .before .before .before .before .before .before .before .before in
-    let read = called .before .before .before .before .before in
-    let start = read .before .before .before .before .before .before .before .before .before in
+    let read = ends-read called in
+    let start = begun read in
     let t = start .pre .1 .1 in
     let s = called .read-backwards .ensures in
     let tree = s .grew (t .words) (t .counted) (t .grown) in
     let from = read .before .end-before .ensures in
-    let room = generator-room (start .args .bytes .now) (start .args .ends .now) (start .pre .1 .0) (start .pre .0) t _ _ from (read .entry .ensures) in
+    let room = generator-room (start .args .bytes .now) (start .args .ends .now) (start .pre .1 .0) (start .pre .0) t _ _ from (read .entry .ensures .0) in
     omega (arith, s .few, tree .inside, tree .counted, room .few)
 
 mul-wholes : tie.Need-mul-wholes
@@ -62,8 +69,8 @@ same-length-5 c = search needs
 returns : tie.Need-returns
 returns c =
     let called = c .before .before .before .before .before .before .before .before .before in
-    let read = called .before .before .before .before .before in
-    let start = read .before .before .before .before .before .before .before .before .before in
+    let read = ends-read called in
+    let start = begun read in
     let grows = called .read-backwards .ensures in (
       read-more
           (start .args .bytes .now)
@@ -74,7 +81,7 @@ returns c =
           _
           _
           (read .before .end-before .ensures)
-          (read .entry .ensures)
+          (read .entry .ensures .0)
           grows,
       (grows .no-fewer, grows .remains),
     )

@@ -6,8 +6,8 @@ use Rattle.words.proofs.Telling.{tells-same, tells-both}
 use Rattle.trees.specs.Bounds.{AtMost}
 use borrow.Author.Needs.{needs}
 use native.Mathlib.Omega.{arith}
-use Rattle.trees.proofs.bounds.front_at_most.Statement.{statement}
-use Rattle.trees.proofs.bounds.front_at_most.Tie as tie
+use Rattle.trees.proofs.entries.front_at_most.Statement.{statement}
+use Rattle.trees.proofs.entries.front_at_most.Tie as tie
 
 abbrev Inv-loop : tie.InvT-loop
 Inv-loop s many most all₀ p₀ all p = (p ≤ many) × Tells all (AtMost most s p)

@@ -2,8 +2,8 @@
 use Rattle.words.proofs.Telling.{tells-same}
 use borrow.Author.Needs.{needs}
 use native.Mathlib.Omega.{arith}
-use Rattle.trees.proofs.bounds.all_at_most.Statement.{statement}
-use Rattle.trees.proofs.bounds.all_at_most.Tie as tie
+use Rattle.trees.proofs.entries.all_at_most.Statement.{statement}
+use Rattle.trees.proofs.entries.all_at_most.Tie as tie
 
 returns : tie.Need-returns
 returns c = λ all. omega (arith, all .room)

@@ -1,8 +1,8 @@
 -- Where this entry is small enough, the answer so far remains. Assumes nothing.
 use Rattle.words.proofs.Telling.{tells-with}
 use native.Mathlib.Omega.{arith}
-use Rattle.trees.proofs.bounds.at_most_too.Statement.{statement}
-use Rattle.trees.proofs.bounds.at_most_too.Tie as tie
+use Rattle.trees.proofs.entries.at_most_too.Statement.{statement}
+use Rattle.trees.proofs.entries.at_most_too.Tie as tie
 
 returns : tie.Need-returns
 returns c = λ told. omega (arith, told .1, c .if1 .taken)
