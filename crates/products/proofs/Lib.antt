@@ -10,7 +10,6 @@ pub mod Rows
 pub mod Reducing
 pub mod Rivals
 pub mod Exact
-pub mod Tight
 pub mod Verdict
 pub mod Spelling
 pub mod Walking

@@ -3,7 +3,7 @@
 --     rows-start .. rows-end          along the rows
 --     walk-a .. walk-g                over each rule that is tight
 --     walk-done, walk-room            what is written at the end, and how high the stack can be
---     effort-one, effort-two          a number that falls at each step over a rule, whether it has one premise or two
+--     steps-one, steps-two          a number that falls at each step over a rule, whether it has one premise or two
 -- Assumes nothing, except that the table is exact where the height of the stack is bounded.
 use mathlib.Core.Path.{_≡_}
 use mathlib.Core.List.{List, [], _∷_, _++_}
@@ -150,16 +150,16 @@ module _ (gens : List Word) (T : Word → Word → ℕ) (target : Word) (k : ℕ
 
 -- What a pair with entry k is still to cost, where its first word has one of w rows. The sum of this over the stack falls at each step: rule A
 -- takes a pair away, B, C, D and G keep the entry and go to an earlier row, and E and F share the entry out.
-abbrev pub effort : ℕ → ℕ → ℕ → ℕ
-effort w k row = (2 * k - 1) * w + row
+abbrev pub steps : ℕ → ℕ → ℕ → ℕ
+steps w k row = (2 * k - 1) * w + row
 
-pub effort-one : (w k row row₁ : ℕ) → row₁ < row → effort w k row₁ < effort w k row
-effort-one w k row row₁ h = omega arith
+pub steps-one : (w k row row₁ : ℕ) → row₁ < row → steps w k row₁ < steps w k row
+steps-one w k row row₁ h = omega arith
 
-pub effort-two : (w a b row row₁ row₂ : ℕ) → 1 ≤ a → 1 ≤ b → row₁ ≤ row → row₂ < w → effort w a row₁ + effort w b row₂ < effort w (a + b) row
-effort-two w zero b row row₁ row₂ h i j l = absurd (omega arith)
-effort-two w (suc a) zero row row₁ row₂ h i j l = absurd (omega arith)
-effort-two w (suc a) (suc b) row row₁ row₂ h i j l =
+pub steps-two : (w a b row row₁ row₂ : ℕ) → 1 ≤ a → 1 ≤ b → row₁ ≤ row → row₂ < w → steps w a row₁ + steps w b row₂ < steps w (a + b) row
+steps-two w zero b row row₁ row₂ h i j l = absurd (omega arith)
+steps-two w (suc a) zero row row₁ row₂ h i j l = absurd (omega arith)
+steps-two w (suc a) (suc b) row row₁ row₂ h i j l =
     let first : 2 * suc a - 1 ≡ 2 * a + 1 = omega arith in
     let second : 2 * suc b - 1 ≡ 2 * b + 1 = omega arith in
     let both : 2 * (suc a + suc b) - 1 ≡ 2 * a + 2 * b + 3 = omega arith in

@@ -1,5 +1,6 @@
 // The rows of a target: row i has, for each node q, the least number of factors that make the target's first i letters and then q's word,
 // or n + 1. Each row is made of the one before it and the finished table.
+use trees::entries::lesser;
 use words::Factors;
 use words::widening::wide;
 ghost use mathlib.Core.Path.{_≡_};
@@ -13,15 +14,6 @@ ghost use Rattle.trees.specs.Bounds.{AtMost};
 ghost use Rattle.tables.specs.Rules.{place};
 ghost use Rattle.rows.specs.Rows.{Fits, Filled};
 ghost use Rattle.rows.specs.Rounds.{Rewritten, Lowered, Round, readAt, RoundFits, RowFits, NextRow};
-
-fn least(a: u16, b: u16) -> u16
-    ensures { λ r. ⌜ r ≡ min a b ⌝ }
-{
-    if b < a {
-        return b;
-    }
-    a
-}
 
 // The row's entry at v's child, or n + 1 where v has none.
 fn read_entry(row: &[u16], children: &[u16], n: Factors, v: usize) -> u16
@@ -75,7 +67,7 @@ fn lower_row(row: &mut [u16], k: u16, from: &[u16])
 {
     let mut q = 0;
     while q < row.len() {
-        row[q] = least(row[q], k + from[q]);
+        row[q] = lesser(row[q], k + from[q]);
         q += 1;
     }
 }

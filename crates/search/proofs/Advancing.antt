@@ -1,8 +1,8 @@
--- A step over a tight rule: the pair on top gives way to the rule's premises, or its generator is written. What is written and owed stays the same
--- together, the word that is made stays, and the burden falls.
+-- A step over a tight rule: the pair on top gives way to the rule's premises, or its generator is written. What is written and factorsLeft stays the same
+-- together, the word that is made stays, and the stepsLeft falls.
 --     advance-none, advance-then       no step, and one walk behind another
 --     advance-factor .. advance-two    over each kind of rule
---     falls-factor .. falls-two        the burden after it
+--     falls-factor .. falls-two        the stepsLeft after it
 -- Assumes nothing.
 use mathlib.Core.Path.{_≡_, refl, ap, subst, _∙_}
 use mathlib.Core.List.{List, [], _∷_, _++_}
@@ -13,11 +13,11 @@ use Rattle.words.specs.Word.{Word, Equal}
 use Rattle.products.specs.Product.{generator, Series}
 use Rattle.products.proofs.States.{series-append}
 use Rattle.products.proofs.Spelling.{made, Makes, makes-one, makes-two, makes-write}
-use Rattle.products.proofs.Walking.{effort-one, effort-two}
+use Rattle.products.proofs.Walking.{steps-one, steps-two}
 use Rattle.trees.specs.Tree.{at, wordAt, Tree}
 use Rattle.tables.specs.Rules.{place}
 use Rattle.search.specs.Tight.{Counts, TightA}
-use Rattle.search.specs.Walk.{named, Inside, burden, Advance}
+use Rattle.search.specs.Walk.{named, Inside, stepsLeft, Advance}
 
 module _ {count : ℕ} {letters rests childrenR childrenS wholes table : List ℕ} where
   pub advance-none : (pairs : List (ℕ × ℕ)) (written : List ℕ) → Inside count pairs
@@ -90,23 +90,23 @@ module _ {count : ℕ} {letters rests childrenR childrenS wholes table : List �
           );
         }
 
--- ---- the burden falls
+-- ---- the stepsLeft falls
 
 module _ (count : ℕ) (table : List ℕ) (x y : ℕ) (pairs : List (ℕ × ℕ)) (h : x < count) where
-  pub falls-factor : at table (place count x y) ≡ 1 → burden count table pairs < burden count table ((x, y) ∷ pairs)
+  pub falls-factor : at table (place count x y) ≡ 1 → stepsLeft count table pairs < stepsLeft count table ((x, y) ∷ pairs)
   falls-factor e = rw e (omega arith)
 
   pub falls-one : (a b : ℕ) → a < x → at table (place count x y) ≡ at table (place count a b)
-      → burden count table ((a, b) ∷ pairs) < burden count table ((x, y) ∷ pairs)
-  falls-one a b l e = rw e (omega (arith, effort-one count (at table (place count a b)) x a l))
+      → stepsLeft count table ((a, b) ∷ pairs) < stepsLeft count table ((x, y) ∷ pairs)
+  falls-one a b l e = rw e (omega (arith, steps-one count (at table (place count a b)) x a l))
 
   pub falls-two : Counts count table → (a b c d : ℕ) → a ≤ x → a < count → b < count → c < count → d < count
       → at table (place count x y) ≡ at table (place count a b) + at table (place count c d)
-      → burden count table ((a, b) ∷ (c, d) ∷ pairs) < burden count table ((x, y) ∷ pairs)
+      → stepsLeft count table ((a, b) ∷ (c, d) ∷ pairs) < stepsLeft count table ((x, y) ∷ pairs)
   falls-two counts a b c d l i j k m e =
       rw e
       (omega (
         arith,
-        effort-two count (at table (place count a b)) (at table (place count c d)) x a c
+        steps-two count (at table (place count a b)) (at table (place count c d)) x a c
             (counts .positive a b i j) (counts .positive c d k m) l k,
       ))

@@ -11,6 +11,7 @@ use native.Mathlib.Omega.{arith}
 use lib.Dec.{eqb}
 use lib.ListN.{length, getD, length-map}
 use borrow.Author.Tests.{eq-eqb, ne-eqb}
+use Rattle.limits.specs.Limits.{mostFactors}
 use Rattle.words.specs.Word.{Letter, R, S, Word}
 use Rattle.words.specs.Bytes.{letter, word, pick}
 use Rattle.products.proofs.Spelling.{RowMakes, row-start, row-read, row-chain}
@@ -20,7 +21,7 @@ use Rattle.rows.specs.Rows.{readNode, readEntry}
 use Rattle.search.specs.Tight.{Children}
 use Rattle.search.specs.Walk.{named}
 use Rattle.search.specs.Descent.{Read, Chain, Back, read, chain, Spells, Descendable, Descent}
-use Rattle.search.proofs.Stacked.{owed-height}
+use Rattle.search.proofs.Stacked.{height-left}
 
 -- ---- the step that is found
 
@@ -122,12 +123,12 @@ module _ {count : ℕ} {childrenR childrenS target table rows : List ℕ} where
               (_, (v, q) ∷ [], chain (record { node = k; some = r .0; sum = omega (arith, next, e, r .1) }))
 
       -- the pairs of the stack and the one that is pushed are not more than n together
-      pub back-room : (c : ℕ) (pushed : List (ℕ × ℕ)) → Back count children table rows i q c pushed → length pairs + length pushed ≤ 1000
-      back-room c pushed (read r) = omega (arith, owed-height count table (d .counts) pairs (here .inside), here .counts, d .within, d .bound)
+      pub back-room : (c : ℕ) (pushed : List (ℕ × ℕ)) → Back count children table rows i q c pushed → length pairs + length pushed ≤ mostFactors
+      back-room c pushed (read r) = omega (arith, height-left count table (d .counts) pairs (here .inside), here .counts, d .within, d .bound)
       back-room c pushed (chain {v} t) =
           omega (
             arith,
-            owed-height count table (d .counts) pairs (here .inside),
+            height-left count table (d .counts) pairs (here .inside),
             here .counts,
             d .within,
             d .bound,

@@ -10,11 +10,11 @@ use Rattle.words.specs.Bytes.{letter}
 use Rattle.words.proofs.NormalForm.{equal-path}
 use Rattle.products.proofs.Spelling.{made, made-b, made-c, made-d, made-e, made-f, made-g}
 use Rattle.trees.specs.Tree.{at, wordAt, Tree}
-use Rattle.trees.proofs.Nodes.{is-r, is-s}
+use Rattle.trees.proofs.Nodes.{is-letter}
 use Rattle.tables.specs.Rules.{place}
 use Rattle.search.specs.Tight.{RestBy, ChildOf, Same}
 use Rattle.search.specs.Tight.{TightOne, B, C, D, G, TightTwo, E, F}
-use Rattle.search.specs.Walk.{Inside, burden, Walkable, Advance}
+use Rattle.search.specs.Walk.{Inside, stepsLeft, Walkable, Advance}
 use Rattle.search.specs.declared.tight.Step.the-variants.{Two}
 use Rattle.search.proofs.Advancing.{advance-to-one, advance-to-two, falls-one, falls-two}
 
@@ -23,10 +23,10 @@ use Rattle.search.proofs.Advancing.{advance-to-one, advance-to-two, fal
 module _ {gens words : List Word} {letters rests childrenR childrenS wholes : List ℕ} (tree : Tree gens words letters rests childrenR childrenS wholes)
     {count : ℕ} (size : length words ≡ count) where
   rest-r : (x a : ℕ) → x < count → RestBy letters rests 82 x a → wordAt words x ≡ R ∷ wordAt words a
-  rest-r x a h r = is-r tree x (r .0 .0) (omega arith) (r .0 .1) ∙ ap (λ (p : ℕ). R ∷ wordAt words p) (sym (r .1))
+  rest-r x a h r = is-letter tree R x (r .0 .0) (omega arith) (r .0 .1) ∙ ap (λ (p : ℕ). R ∷ wordAt words p) (sym (r .1))
 
   rest-s : (x a : ℕ) → x < count → RestBy letters rests 83 x a → wordAt words x ≡ S ∷ wordAt words a
-  rest-s x a h r = is-s tree x (r .0 .0) (omega arith) (r .0 .1) ∙ ap (λ (p : ℕ). S ∷ wordAt words p) (sym (r .1))
+  rest-s x a h r = is-letter tree S x (r .0 .0) (omega arith) (r .0 .1) ∙ ap (λ (p : ℕ). S ∷ wordAt words p) (sym (r .1))
 
   child-r : (y b : ℕ) → y < count → ChildOf childrenR y b → wordAt words b ≡ R ∷ wordAt words y
   child-r y b h c = ap (wordAt words) (c .1) ∙ tree .child-r y (omega arith) .there (omega (arith, c .0, c .1))
@@ -131,10 +131,10 @@ module _ {count : ℕ} {letters rests childrenR childrenS wholes table : List �
         advance-to-two x y pairs inside written a b c d
         (omega (arith, m .earlier)) (m .second) (m .third) (m .fourth) (m .sum) (λ gens words tree size. two-made gens words tree size a b c d t)
 
-    pub lighter-one : (a b : ℕ) → One a b → burden count table ((a, b) ∷ pairs) < burden count table ((x, y) ∷ pairs)
+    pub lighter-one : (a b : ℕ) → One a b → stepsLeft count table ((a, b) ∷ pairs) < stepsLeft count table ((x, y) ∷ pairs)
     lighter-one a b t = falls-one count table x y pairs h a b (one-earlier a b t) (one-same a b t)
 
-    pub lighter-two : (a b c d : ℕ) → Both a b c d → burden count table ((a, b) ∷ (c, d) ∷ pairs) < burden count table ((x, y) ∷ pairs)
+    pub lighter-two : (a b c d : ℕ) → Both a b c d → stepsLeft count table ((a, b) ∷ (c, d) ∷ pairs) < stepsLeft count table ((x, y) ∷ pairs)
     lighter-two a b c d t =
         let m = two-inside a b c d t in
         falls-two count table x y pairs h (w .counts) a b c d (m .earlier) (omega (arith, m .earlier)) (m .second) (m .third) (m .fourth) (m .sum)

@@ -15,9 +15,9 @@ use Rattle.tables.specs.Rules.{place}
 use Rattle.search.specs.Search.{Query, Tabulated}
 use Rattle.search.specs.Witness.{Spelled}
 use Rattle.search.specs.Tight.{Counts}
-use Rattle.search.specs.Walk.{stacked, named, Inside, owed, Walkable, Advance, Standing, Behind}
+use Rattle.search.specs.Walk.{stacked, named, Inside, factorsLeft, Walkable, Advance, Standing, Behind}
 use Rattle.search.specs.Descent.{Spells, Descendable, Descent}
-use Rattle.search.proofs.Stacked.{owed-height}
+use Rattle.search.proofs.Stacked.{height-left}
 use Rattle.search.proofs.TightRules.{followed-rests, followed-r, followed-s, positive-counts, some-tight}
 
 module _ {count n : ℕ} {letters rests childrenR childrenS wholes target table rows : List ℕ}
@@ -58,14 +58,14 @@ module _ {count n : ℕ} {letters rests childrenR childrenS wholes target table 
       first : at rows (place count 0 q) ≡ at table (place count 0 q)
       first = d .rows-right .start q (descent .node)
 
-      all-owed : owed count table ((0, q) ∷ pairs) ≡ at rows (place count (length target) 0)
-      all-owed = omega (arith, first, descent .counts)
+      all-left : factorsLeft count table ((0, q) ∷ pairs) ≡ at rows (place count (length target) 0)
+      all-left = omega (arith, first, descent .counts)
 
       all-inside : Inside count ((0, q) ∷ pairs)
       all-inside = (d .shape .some, descent .node, descent .inside)
 
       pub last-room : length pairs < mostFactors
-      last-room = omega (arith, owed-height count table (counted) ((0, q) ∷ pairs) all-inside, all-owed, within, d .bound)
+      last-room = omega (arith, height-left count table (counted) ((0, q) ∷ pairs) all-inside, all-left, within, d .bound)
 
       pub standing-start : (xs ys witness : List ℕ) (height : ℕ) → mostFactors ≤ length xs → mostFactors ≤ length ys → n ≤ length witness
           → stacked xs ys height ≡ (0, q) ∷ pairs → Standing count table n xs ys witness height 0
@@ -76,7 +76,7 @@ module _ {count n : ℕ} {letters rests childrenR childrenS wholes target table 
             room-y = room-y;
             room = room;
             inside = rw e all-inside;
-            owes = rw e (omega (arith, all-owed, within));
+            left = rw e (omega (arith, all-left, within));
           }
 
       pub spelled : {gens words : List Word} → Query gens words count n letters rests childrenR childrenS wholes target table
@@ -100,6 +100,6 @@ module _ {count n : ℕ} {letters rests childrenR childrenS wholes target table 
             series = done .0;
             reaches = makes-done gens (take k witness₁) (word target) (done .1);
             counts = counts;
-            least = omega (arith, counts, advance .counts, all-owed);
+            least = omega (arith, counts, advance .counts, all-left);
             rest = behind .rest;
           }

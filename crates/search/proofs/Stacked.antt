@@ -1,4 +1,4 @@
--- A stack of pairs: what stores on top of it make of it, and how much it owes at least. Assumes nothing.
+-- A stack of pairs: what stores on top of it make of it, and how much it left at least. Assumes nothing.
 use mathlib.Core.Path.{_≡_, refl, sym, ap, _∙_}
 use mathlib.Core.List.{List, [], _∷_}
 use Prim.Native.Nat.{ℕ, zero, suc, _+_, _-_, _≤_, _<_}
@@ -8,7 +8,7 @@ use lib.ListN.{length, set, length-set}
 use lib.Seq.{getD-set-same, getD-set-other}
 use Rattle.trees.specs.Tree.{at}
 use Rattle.search.specs.Tight.{Counts}
-use Rattle.search.specs.Walk.{stacked, Inside, owed}
+use Rattle.search.specs.Walk.{stacked, Inside, factorsLeft}
 
 -- a store at some height leaves what is below
 stacked-below : (xs ys : List ℕ) (h a b k : ℕ) → k ≤ h → stacked (set xs h a) (set ys h b) k ≡ stacked xs ys k
@@ -44,7 +44,7 @@ length-stacked xs ys zero = refl
 length-stacked xs ys (suc h) = ap suc (length-stacked xs ys h)
 
 -- no pair is without a factor
-pub owed-height : (count : ℕ) (table : List ℕ) → Counts count table → (pairs : List (ℕ × ℕ)) → Inside count pairs → length pairs ≤ owed count table pairs
-owed-height count table counts [] h = omega arith
-owed-height count table counts (p ∷ pairs) h =
-    omega (arith, counts .positive (p .0) (p .1) (h .0) (h .1), owed-height count table counts pairs (h .2))
+pub height-left : (count : ℕ) (table : List ℕ) → Counts count table → (pairs : List (ℕ × ℕ)) → Inside count pairs → length pairs ≤ factorsLeft count table pairs
+height-left count table counts [] h = omega arith
+height-left count table counts (p ∷ pairs) h =
+    omega (arith, counts .positive (p .0) (p .1) (h .0) (h .1), height-left count table counts pairs (h .2))

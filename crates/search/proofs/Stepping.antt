@@ -6,13 +6,14 @@ use native.Mathlib.Numerals.{add-one}
 use native.Mathlib.Omega.{arith}
 use lib.ListN.{length, take, set, length-set}
 use lib.Seq.{take-suc-set, drop-set-lt}
-use Rattle.trees.specs.Tree.{at}
+use Rattle.limits.specs.Limits.{mostFactors}
+use Rattle.trees.specs.Tree.{at, mostOfEntry}
 use Rattle.tables.specs.Rules.{place}
 use Rattle.search.specs.Tight.{Counts, TightA, TightOne, TightTwo, Tight, factor, one, two, SomeTight}
-use Rattle.search.specs.Walk.{stacked, Inside, owed, burden, Walkable, Advance, Standing, Behind}
+use Rattle.search.specs.Walk.{stacked, Inside, factorsLeft, stepsLeft, Walkable, Advance, Standing, Behind}
 use Rattle.search.specs.declared.tight.Step.{Step}
 use Rattle.search.specs.declared.tight.Step.the-variants.{Factor, One, Two}
-use Rattle.search.proofs.Stacked.{stacked-top, stacked-one, stacked-two, length-stacked, owed-height}
+use Rattle.search.proofs.Stacked.{stacked-top, stacked-one, stacked-two, length-stacked, height-left}
 use Rattle.search.proofs.Advancing.{advance-factor, falls-factor}
 use Rattle.search.proofs.Premises.{TwoInside, one-earlier, one-inside, two-inside, advance-one, advance-two, lighter-one, lighter-two}
 
@@ -20,7 +21,7 @@ use Rattle.search.proofs.Premises.{TwoInside, one-earlier, one-inside, 
 pub standing-height : {count : ℕ} {table : List ℕ} {n : ℕ} {xs ys witness : List ℕ} {height written : ℕ} → Counts count table
     → Standing count table n xs ys witness height written → written + height ≤ n
 standing-height {count} {table} {xs} {ys} {height} counts s =
-    omega (arith, s .owes, owed-height count table counts (stacked xs ys height) (s .inside), length-stacked xs ys height)
+    omega (arith, s .left, height-left count table counts (stacked xs ys height) (s .inside), length-stacked xs ys height)
 
 -- The walk before a step: x and y are the pair on top.
 pub record Before (count : ℕ) (letters rests childrenR childrenS wholes table xs ys witness : List ℕ) (height written x y : ℕ) : Type 0 where
@@ -42,8 +43,8 @@ module _ {count : ℕ} {letters rests childrenR childrenS wholes table xs ys wit
   inside : Inside count ((x, y) ∷ below)
   inside = subst (Inside count) on-top (top .standing .inside)
 
-  owes : written + (at table (place count x y) + owed count table below) ≤ top .n
-  owes = subst (λ (pairs : List (ℕ × ℕ)). written + owed count table pairs ≤ top .n) on-top (top .standing .owes)
+  left : written + (at table (place count x y) + factorsLeft count table below) ≤ top .n
+  left = subst (λ (pairs : List (ℕ × ℕ)). written + factorsLeft count table pairs ≤ top .n) on-top (top .standing .left)
 
   pub height-room : (height ≤ length xs) × (height ≤ length ys)
   height-room =
@@ -52,20 +53,20 @@ module _ {count : ℕ} {letters rests childrenR childrenS wholes table xs ys wit
       (omega (arith, s .bound, s .room-x), omega (arith, s .bound, s .room-y))
 
   pub choosable : (x < count) × (y < count) × SomeTight count letters rests childrenR childrenS wholes table x y
-  choosable = (inside .0, inside .1, top .walkable .tight x y (inside .0) (inside .1) (omega (arith, owes)))
+  choosable = (inside .0, inside .1, top .walkable .tight x y (inside .0) (inside .1) (omega (arith, left)))
 
   -- what a step promises
   abbrev Steps : List ℕ → List ℕ → List ℕ → ℕ → ℕ → Type 0
   Steps xs₁ ys₁ witness₁ height₁ written₁ =
       Advance count letters rests childrenR childrenS wholes table (stacked xs ys height) (take written witness)
       (stacked xs₁ ys₁ height₁) (take written₁ witness₁)
-      × ((burden count table (stacked xs₁ ys₁ height₁) < burden count table (stacked xs ys height)) × Behind written written₁ witness witness₁)
+      × ((stepsLeft count table (stacked xs₁ ys₁ height₁) < stepsLeft count table (stacked xs ys height)) × Behind written written₁ witness witness₁)
 
   -- the same of the pairs and of what is written
   steps-of : (xs₁ ys₁ witness₁ : List ℕ) (height₁ written₁ : ℕ) (pairs : List (ℕ × ℕ)) (more : List ℕ)
       → stacked xs₁ ys₁ height₁ ≡ pairs → take written₁ witness₁ ≡ more
       → Advance count letters rests childrenR childrenS wholes table ((x, y) ∷ below) (take written witness) pairs more
-      → burden count table pairs < burden count table ((x, y) ∷ below) → Behind written written₁ witness witness₁
+      → stepsLeft count table pairs < stepsLeft count table ((x, y) ∷ below) → Behind written written₁ witness witness₁
       → Steps xs₁ ys₁ witness₁ height₁ written₁
   steps-of xs₁ ys₁ witness₁ height₁ written₁ pairs more e f a b c = rw (e, f, on-top) (a, (b, c))
 
@@ -82,7 +83,7 @@ module _ {count : ℕ} {letters rests childrenR childrenS wholes table xs ys wit
     is-a = tight-factor j (subst Here e t)
 
     pub factor-room : (written < length witness) × (j < 256)
-    factor-room = (omega (arith, owes, is-a .one, top .standing .room), omega (arith, is-a .factor, top .walkable .numbers))
+    factor-room = (omega (arith, left, is-a .one, top .standing .room), omega (arith, is-a .factor, top .walkable .numbers))
 
     pub steps-factor : {witness₁ : List ℕ} → witness₁ ≡ set witness written j → Steps xs ys witness₁ (height - 1) (written + 1)
     steps-factor {witness₁} f =
@@ -97,7 +98,7 @@ module _ {count : ℕ} {letters rests childrenR childrenS wholes table xs ys wit
         })
 
   same-witness : Behind written written witness witness
-  same-witness = record { more = omega arith; within = omega (arith, owes, top .standing .room); rest = refl }
+  same-witness = record { more = omega arith; within = omega (arith, left, top .standing .room); rest = refl }
 
   -- ---- one pair for the one on top
 
@@ -108,7 +109,7 @@ module _ {count : ℕ} {letters rests childrenR childrenS wholes table xs ys wit
     is-one : TightOne count letters rests childrenR childrenS table x y a b
     is-one = tight-one a b (subst Here e t)
 
-    pub one-low : (a ≤ 65535) × (b ≤ 65535)
+    pub one-low : (a ≤ mostOfEntry) × (b ≤ mostOfEntry)
     one-low = (
       omega (arith, one-earlier (top .walkable) x y (inside .0) (inside .1) a b is-one, inside .0, top .walkable .few),
       omega (arith, one-inside (top .walkable) x y (inside .0) (inside .1) a b is-one, top .walkable .few),
@@ -136,14 +137,14 @@ module _ {count : ℕ} {letters rests childrenR childrenS wholes table xs ys wit
     abbrev nodes : TwoInside (top .walkable) x y (inside .0) (inside .1) a b c d
     nodes = two-inside (top .walkable) x y (inside .0) (inside .1) a b c d is-two
 
-    pub two-room : height < 1000
+    pub two-room : height < mostFactors
     two-room =
         let first = top .walkable .counts .positive a b (omega (arith, nodes .earlier, inside .0)) (nodes .second) in
         let second = top .walkable .counts .positive c d (nodes .third) (nodes .fourth) in
-        let high = owed-height count table (top .walkable .counts) below (inside .2) in
-        omega (arith, owes, nodes .sum, length-stacked xs ys (height - 1), top .standing .bound)
+        let high = height-left count table (top .walkable .counts) below (inside .2) in
+        omega (arith, left, nodes .sum, length-stacked xs ys (height - 1), top .standing .bound)
 
-    pub two-low : (a ≤ 65535) × (b ≤ 65535) × (c ≤ 65535) × (d ≤ 65535)
+    pub two-low : (a ≤ mostOfEntry) × (b ≤ mostOfEntry) × (c ≤ mostOfEntry) × (d ≤ mostOfEntry)
     two-low = (
       omega (arith, nodes .earlier, inside .0, top .walkable .few),
       omega (arith, nodes .second, top .walkable .few),

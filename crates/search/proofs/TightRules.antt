@@ -110,13 +110,15 @@ module _ {count n : ℕ} {letters rests childrenR childrenS wholes target table 
   by-rule (G letter a b (za, ha, la) (zb, hb, lb)) sum x y k e =
       let ra = rest-inside a za ha in
       let rb = rest-inside b zb hb in
-      moved hb k e
-      (One (at rests a) (at rests b), by-one (TightOne.G (record {
-        some = (za, zb);
-        letter = la ∙ sym lb;
-        rest = (refl, refl);
-        same = omega (arith, sum, past, entry-at a b ha hb, entry-at (at rests a) (at rests b) ra rb);
-      })))
+      moved hb k e (
+        One (at rests a) (at rests b),
+        by-one (TightOne.G (record {
+          some = (za, zb);
+          letter = la ∙ sym lb;
+          rest = (refl, refl);
+          same = omega (arith, sum, past, entry-at a b ha hb, entry-at (at rests a) (at rests b) ra rb);
+        })),
+      )
 
   -- the last rule by which an entry is made is tight there: what its premises are made with is no less than their entries
   by-made : {c v : ℕ} → Made count letters rests wholes c v → entry front c ≡ v → v ≤ n → (x y : ℕ) → y < count → c ≡ place count x y → Found x y
@@ -143,6 +145,6 @@ module _ {count n : ℕ} {letters rests childrenR childrenS wholes target table 
   pub some-tight : (x y : ℕ) → x < count → y < count → at table (place count x y) ≤ n → Found x y
   some-tight x y h k within =
       let here = entry-at x y h k in
-      let inside = place-inside {w = count} h k in
+      let inside = place-inside {count = count} h k in
       let made = d .full .made (place count x y) (omega (arith, d .full .counts .long)) (omega arith) in
       by-made made refl (omega arith) x y k refl

@@ -37,7 +37,7 @@ module _ {count : ℕ} {letters rests childrenR childrenS wholes table : List �
         room-y = omega (arith, s .room-y, ey);
         room = omega (arith, s .room, ew);
         inside = advance .inside;
-        owes = omega (arith, advance .counts, length-take-le written₁ witness₁ (behind .within), s .owes);
+        left = omega (arith, advance .counts, length-take-le written₁ witness₁ (behind .within), s .left);
       }
 
   -- nothing is left on the stack

@@ -4,14 +4,15 @@ use mathlib.Core.Path.{_≡_}
 use mathlib.Core.List.{List, [], _∷_}
 use Prim.Native.Nat.{ℕ, suc, _+_, _*_, _≤_, _<_}
 use lib.ListN.{length}
+use Rattle.limits.specs.Limits.{mostFactors}
 use Rattle.words.specs.Word.{R, S, Word}
 use Rattle.words.specs.Bytes.{word}
 use Rattle.products.proofs.Spelling.{RowMakes}
-use Rattle.trees.specs.Tree.{at, wordAt, Child}
+use Rattle.trees.specs.Tree.{at, wordAt, mostOfEntry, Child}
 use Rattle.tables.specs.Rules.{place}
 use Rattle.rows.specs.Rows.{PathRows}
 use Rattle.search.specs.Tight.{Children, Counts}
-use Rattle.search.specs.Walk.{named, Inside, owed}
+use Rattle.search.specs.Walk.{named, Inside, factorsLeft}
 
 -- The entry of row i + 1 at q is row i's at c, where the letter is read.
 pub record Read (count : ℕ) (rows : List ℕ) (i q c : ℕ) : Type 0 where
@@ -39,9 +40,9 @@ module _ (count : ℕ) (childrenR childrenS target table rows : List ℕ) where
   -- What makes the descent possible: indices that are safe to follow, and rows whose entries come from the row before.
   pub record Descendable : Type 0 where
     pub n : ℕ
-    pub bound : n ≤ 1000
+    pub bound : n ≤ mostFactors
     pub some : 1 ≤ count
-    pub few : count ≤ 65535
+    pub few : count ≤ mostOfEntry
     pub by-r : Children count childrenR
     pub by-s : Children count childrenS
     pub counts : Counts count table
@@ -53,5 +54,5 @@ module _ (count : ℕ) (childrenR childrenS target table rows : List ℕ) where
   pub record Descent (i q : ℕ) (pairs : List (ℕ × ℕ)) : Type 0 where
     pub node : q < count
     pub inside : Inside count pairs
-    pub counts : at rows (place count i q) + owed count table pairs ≡ at rows (place count (length target) 0)
+    pub counts : at rows (place count i q) + factorsLeft count table pairs ≡ at rows (place count (length target) 0)
     pub makes : (words : List Word) → Spells count childrenR childrenS words → RowMakes (word target) i (wordAt words q) (named words pairs)

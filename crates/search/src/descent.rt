@@ -1,14 +1,16 @@
 // The way back along the rows of a target, from the last row at nothing to row 0. An entry of row i + 1 is row i's where the target's letter i is
 // read, or such an entry and one of the table's together; then the table's pair is pushed. The pairs come off the stack in the order of the factors.
 use crate::entries::cell;
-use crate::entries::entry;
 use crate::entries::pair_entry;
 use crate::stack::put_pair;
+use trees::entries::entry;
 ghost use mathlib.Core.Path.{_≡_};
 ghost use mathlib.Core.List.{List, _++_};
 ghost use Prim.Native.Nat.{ℕ, _+_, _≤_, _<_};
 ghost use lib.ListN.{length};
+ghost use Rattle.limits.specs.Limits.{mostFactors};
 ghost use Rattle.words.specs.Telling.{Tells};
+ghost use Rattle.trees.specs.Tree.{mostOfEntry};
 ghost use Rattle.tables.specs.Rules.{place};
 ghost use Rattle.search.specs.Tight.{Children, Counts};
 ghost use Rattle.search.specs.Walk.{stacked};
@@ -90,11 +92,11 @@ fn back_by(
 ) -> Place
     requires { ⌜ Children count (now children) ⌝ }
     requires { ⌜ Counts count (now table) ⌝ }
-    requires { ⌜ (at .node < count) × (place count (i + 1) count ≤ length (now rows)) × (count ≤ 65535) ⌝ }
-    requires { ⌜ (1000 ≤ length (now xs)) × (1000 ≤ length (now ys)) ⌝ }
+    requires { ⌜ (at .node < count) × (place count (i + 1) count ≤ length (now rows)) × (count ≤ mostOfEntry) ⌝ }
+    requires { ⌜ (mostFactors ≤ length (now xs)) × (mostFactors ≤ length (now ys)) ⌝ }
     requires { ⌜ ((c : ℕ) × (pushed : List (ℕ × ℕ)) × Back count (now children) (now table) (now rows) i (at .node) c pushed) ⌝ }
     requires { ⌜ ((c : ℕ) (pushed : List (ℕ × ℕ)) → Back count (now children) (now table) (now rows) i (at .node) c pushed
-        → at .height + length pushed ≤ 1000) ⌝ }
+        → at .height + length pushed ≤ mostFactors) ⌝ }
     ensures { λ r. ⌜ ((pushed : List (ℕ × ℕ)) × Back count (now (children .entry)) (now (table .entry)) (now (rows .entry)) i (at .node) (r .node) pushed
         × (stacked (now (xs .exit)) (now (ys .exit)) (r .height) ≡ pushed ++ stacked (now (xs .entry)) (now (ys .entry)) (at .height))) ⌝ }
 {
@@ -128,7 +130,7 @@ fn back(
     requires { ⌜ Descendable count (now «children_r») (now «children_s») (now target) (now table) (now rows) ⌝ }
     requires { ⌜ Descent count (now «children_r») (now «children_s») (now target) (now table) (now rows)
         (i + 1) (at .node) (stacked (now xs) (now ys) (at .height)) ⌝ }
-    requires { ⌜ (i < length (now target)) × (1000 ≤ length (now xs)) × (1000 ≤ length (now ys)) ⌝ }
+    requires { ⌜ (i < length (now target)) × (mostFactors ≤ length (now xs)) × (mostFactors ≤ length (now ys)) ⌝ }
     ensures { λ r. ⌜ Descent count (now («children_r» .entry)) (now («children_s» .entry)) (now (target .entry)) (now (table .entry)) (now (rows .entry))
         i (r .node) (stacked (now (xs .exit)) (now (ys .exit)) (r .height)) ⌝ }
 {
@@ -150,7 +152,7 @@ pub(crate) fn descend(
     ys: &mut [u16],
 ) -> Place
     requires { ⌜ Descendable count (now «children_r») (now «children_s») (now target) (now table) (now rows) ⌝ }
-    requires { ⌜ (1000 ≤ length (now xs)) × (1000 ≤ length (now ys)) ⌝ }
+    requires { ⌜ (mostFactors ≤ length (now xs)) × (mostFactors ≤ length (now ys)) ⌝ }
     ensures { λ r. ⌜ Descent count (now («children_r» .entry)) (now («children_s» .entry)) (now (target .entry)) (now (table .entry)) (now (rows .entry))
         0 (r .node) (stacked (now (xs .exit)) (now (ys .exit)) (r .height)) ⌝ }
 {

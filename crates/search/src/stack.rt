@@ -1,14 +1,15 @@
 // The pairs of nodes that are still to be spelled, on a stack: each has an entry of 1 or more, and the entries add up to the number of factors that
 // are still to be written, so that 1,000 places are enough. There is no recursion, since its depth would grow with the counts.
-use crate::entries::entry;
 use crate::tight;
 use crate::tight::Step;
+use trees::entries::entry;
 use words::Factors;
 ghost use mathlib.Core.Path.{_≡_};
 ghost use mathlib.Core.List.{[]};
 ghost use Prim.Native.Nat.{ℕ, _≤_, _<_};
 ghost use lib.ListN.{length, take, set};
-ghost use Rattle.search.specs.Walk.{stacked, burden, Walkable, Advance, Standing, Behind};
+ghost use Rattle.trees.specs.Tree.{mostOfEntry};
+ghost use Rattle.search.specs.Walk.{stacked, stepsLeft, Walkable, Advance, Standing, Behind};
 
 // The height of the stack, and how many factors are written.
 pub(crate) struct Top {
@@ -18,7 +19,7 @@ pub(crate) struct Top {
 
 // Puts a pair at some height.
 pub(crate) fn put_pair(xs: &mut [u16], ys: &mut [u16], height: usize, x: usize, y: usize)
-    requires { ⌜ (height < length (now xs)) × (height < length (now ys)) × (x ≤ 65535) × (y ≤ 65535) ⌝ }
+    requires { ⌜ (height < length (now xs)) × (height < length (now ys)) × (x ≤ mostOfEntry) × (y ≤ mostOfEntry) ⌝ }
     ensures { λ _. ⌜ now (xs .exit) ≡ set (now (xs .entry)) height x ⌝ }
     ensures { λ _. ⌜ now (ys .exit) ≡ set (now (ys .entry)) height y ⌝ }
 {
@@ -55,8 +56,8 @@ fn walk_once(
         (now (wholes .entry)) (now (table .entry))
         (stacked (now (xs .entry)) (now (ys .entry)) (top .height)) (take (top .written) (now (witness .entry)))
         (stacked (now (xs .exit)) (now (ys .exit)) (r .height)) (take (r .written) (now (witness .exit))) ⌝ }
-    ensures { λ r. ⌜ burden count (now (table .entry)) (stacked (now (xs .exit)) (now (ys .exit)) (r .height))
-        < burden count (now (table .entry)) (stacked (now (xs .entry)) (now (ys .entry)) (top .height)) ⌝ }
+    ensures { λ r. ⌜ stepsLeft count (now (table .entry)) (stacked (now (xs .exit)) (now (ys .exit)) (r .height))
+        < stepsLeft count (now (table .entry)) (stacked (now (xs .entry)) (now (ys .entry)) (top .height)) ⌝ }
     ensures { λ r. ⌜ Behind (top .written) (r .written) (now (witness .entry)) (now (witness .exit)) ⌝ }
 {
     let height = top.height;

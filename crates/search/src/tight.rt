@@ -1,7 +1,7 @@
 // For a pair of nodes, a rule that is tight there: the entries of its premises add up to the pair's. A witness is walked from each pair to
 // the premises of such a rule. Those with one premise are tried before those with two, so that the walk is short.
-use crate::entries::entry;
 use crate::entries::pair_entry;
+use trees::entries::entry;
 ghost use mathlib.Core.Path.{_≡_};
 ghost use Prim.Native.Nat.{ℕ, _+_, _<_};
 ghost use lib.ListN.{length};

@@ -68,18 +68,6 @@ module _ {gens words : List Word} {letters rests childrenR childrenS wholes : Li
             (omega arith, byte-of a p (omega arith) h first, tail)
       ]
 
-  pub is-r : (p : ℕ) → 0 < p → p < length words → at letters p ≡ 82 → wordAt words p ≡ R ∷ wordAt words (at rests p)
-  is-r = is-letter R
-
-  pub is-s : (p : ℕ) → 0 < p → p < length words → at letters p ≡ 83 → wordAt words p ≡ S ∷ wordAt words (at rests p)
-  is-s = is-letter S
-
-  pub begins-r : (p : ℕ) → p < length words → (q : Word) → wordAt words p ≡ R ∷ q → (0 < p) × (at letters p ≡ 82) × (wordAt words (at rests p) ≡ q)
-  begins-r = begins-letter R
-
-  pub begins-s : (p : ℕ) → p < length words → (q : Word) → wordAt words p ≡ S ∷ q → (0 < p) × (at letters p ≡ 83) × (wordAt words (at rests p) ≡ q)
-  begins-s = begins-letter S
-
   -- ---- children, by either letter
 
   child-node : (a : Letter) (p c : ℕ) → p < length words → 0 < c → c < length words → Child words a p c → (at letters c ≡ byte a) × (at rests c ≡ p)

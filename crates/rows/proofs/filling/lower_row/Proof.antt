@@ -20,25 +20,25 @@ abbrev μ-loop : tie.MeasureT-loop
 loop-holds : tie.Need-loop-holds Inv-loop μ-loop
 loop-holds c = (omega arith, rewritten-none)
 
-mul-least : tie.Need-mul-least Inv-loop μ-loop
-mul-least c = search needs
+mul-lesser : tie.Need-mul-lesser Inv-loop μ-loop
+mul-lesser c = search needs
 
-slice-read-least : tie.Need-slice-read-least Inv-loop μ-loop
-slice-read-least c = search needs
+slice-read-lesser : tie.Need-slice-read-lesser Inv-loop μ-loop
+slice-read-lesser c = search needs
 
-mul-least-2 : tie.Need-mul-least-2 Inv-loop μ-loop
-mul-least-2 c = search needs
+mul-lesser-2 : tie.Need-mul-lesser-2 Inv-loop μ-loop
+mul-lesser-2 c = search needs
 
-shared-slice-read-least : tie.Need-shared-slice-read-least Inv-loop μ-loop
-shared-slice-read-least c = search needs
+shared-slice-read-lesser : tie.Need-shared-slice-read-lesser Inv-loop μ-loop
+shared-slice-read-lesser c = search needs
 
-add-least : tie.Need-add-least Inv-loop μ-loop
-add-least c =
+add-lesser : tie.Need-add-lesser Inv-loop μ-loop
+add-lesser c =
     let q = c .before .before .before .loop .q in
     omega (arith, c .before .before .before .before .before .before .pre .0, c .before .before .before .before .before .before .pre .1 .1 q (omega arith))
 
-least-requires : tie.Need-least-requires Inv-loop μ-loop
-least-requires c κs = search needs
+lesser-requires : tie.Need-lesser-requires Inv-loop μ-loop
+lesser-requires c κs = search needs
 
 mul-row : tie.Need-mul-row Inv-loop μ-loop
 mul-row c = search needs
@@ -56,7 +56,7 @@ loop-again : tie.Need-loop-again Inv-loop μ-loop
 loop-again c =
     let l = c .before .before .before .before .loop in
     let a = c .before .before .before .before .before .before .before .args in
-    let lowered = c .least .ensures ∙ ap (λ (x : ℕ). min x (a .k + at (a .from .now) (l .q))) (l .inv .1 .old (l .q) (le-refl (l .q))) in
+    let lowered = c .lesser .ensures ∙ ap (λ (x : ℕ). min x (a .k + at (a .from .now) (l .q))) (l .inv .1 .old (l .q) (le-refl (l .q))) in
     (omega arith, rewritten-more (l .inv .1) (omega arith) lowered)
 
 same-length : tie.Need-same-length Inv-loop μ-loop
@@ -72,12 +72,12 @@ lower-row-spec =
     Inv-loop
     μ-loop
     loop-holds
-    mul-least
-    slice-read-least
-    mul-least-2
-    shared-slice-read-least
-    add-least
-    least-requires
+    mul-lesser
+    slice-read-lesser
+    mul-lesser-2
+    shared-slice-read-lesser
+    add-lesser
+    lesser-requires
     mul-row
     slice-write-row
     add-q

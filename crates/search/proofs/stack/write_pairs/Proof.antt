@@ -1,8 +1,8 @@
--- The walk goes on until the stack is empty. Its measure is the burden, which falls at each step. Assumes nothing.
+-- The walk goes on until the stack is empty. Its measure is the stepsLeft, which falls at each step. Assumes nothing.
 use mathlib.Core.Path.{_≡_, refl, _∙_}
 use mathlib.Core.List.{[]}
 use lib.ListN.{length, take}
-use Rattle.search.specs.Walk.{stacked, burden, Advance, Behind}
+use Rattle.search.specs.Walk.{stacked, stepsLeft, Advance, Behind}
 use Rattle.search.proofs.Advancing.{advance-none, advance-then}
 use Rattle.search.proofs.Walks.{behind-none, behind-then, standing-on, advance-done}
 use native.Mathlib.Omega.{arith}
@@ -19,7 +19,7 @@ Inv-loop letters rests children-r children-s wholes table count xs₀ ys₀ heig
 
 abbrev μ-loop : tie.MeasureT-loop
 μ-loop letters rests children-r children-s wholes table count xs₀ ys₀ height witness₀ top₀ xs ys witness top =
-    burden count table (stacked xs ys (top .height))
+    stepsLeft count table (stacked xs ys (top .height))
 
 loop-holds : tie.Need-loop-holds Inv-loop μ-loop
 loop-holds c =
@@ -54,7 +54,7 @@ cast-t20 c =
     let l = c .before .before .before .loop in
     let v = l .inv in
     let s = standing-on {xs₁ = l .xs} {ys₁ = l .ys} {height₁ = l .top .height} (p .2) (v .0) (v .1) (v .2) (v .3) (v .4) in
-    omega (arith, s .owes, s .bound)
+    omega (arith, s .left, s .bound)
 
 same-length : tie.Need-same-length Inv-loop μ-loop
 same-length c = c .before .before .before .loop .inv .0
