@@ -4,7 +4,6 @@ use mathlib.Core.Path.{_≡_, refl, sym, ap, _∙_}
 use mathlib.Core.List.{List, [], _∷_}
 use Prim.Native.Nat.{ℕ, _*_, _≤_}
 use native.Mathlib.Omega.{arith}
-use lib.Dec.{leb}
 use lib.ListN.{length, take}
 use lib.Seq.{take-at}
 use borrow.Author.Tests.{le-leb}
@@ -16,7 +15,7 @@ use Rattle.words.specs.Slices.{overwritten, written}
 use Rattle.words.specs.Calls.{lengthOr, Writes}
 use Rattle.words.specs.declared.Letters.{Letters}
 use Rattle.words.specs.declared.Refusal.{Refusal}
-use Rattle.words.specs.declared.Refusal.the-variants.{TooManyLetters, NotALetter, OutputTooShort}
+use Rattle.words.specs.declared.Refusal.the-variants.{OutputTooShort}
 use Rattle.words.specs.declared.Asked.{Asked}
 use Rattle.words.specs.declared.Asked.the-variants.{Passed, Refused}
 use Rattle.words.specs.declared.Written.{Written}
@@ -26,9 +25,9 @@ use Rattle.words.proofs.Bytes.{length-bytes}
 
 pub of-word-passes : (w : List ℕ) (needed room : ℕ) → length w ≤ mostLetters → length w ≤ firstOther w → needed ≤ room → ofWord w needed room ≡ Passed
 of-word-passes w needed room short letters enough =
-    yes-first (leb (length w) mostLetters) TooManyLetters (question10 w ∷ question14 needed room ∷ []) (le-leb (length w) mostLetters short)
-    ∙ yes-first (leb (length w) (firstOther w)) (NotALetter (firstOther w)) (question14 needed room ∷ []) (le-leb (length w) (firstOther w) letters)
-    ∙ yes-first (leb needed room) OutputTooShort [] (le-leb needed room enough)
+    yes-first _ _ (question10 w ∷ question14 needed room ∷ []) (le-leb (length w) mostLetters short)
+    ∙ yes-first _ _ (question14 needed room ∷ []) (le-leb (length w) (firstOther w) letters)
+    ∙ yes-first _ _ [] (le-leb needed room enough)
 
 module _ (f : Word → Word) (k : ℕ) (w before : List ℕ) (r : Written) (after : List ℕ) (writes : Writes f k w before r after)
     (passed : ofWord w (k * length w) (length before) ≡ Passed) where
