@@ -101,6 +101,7 @@ fn arrive_inverse_letter(stack: &mut [u8], top: Top, byte: u8) -> Top
 pub(crate) fn arrive_all(stack: &mut [u8], word: &[u8]) -> Top
     requires { ⌜ length (now word) ≤ length (now stack) ⌝ }
     ensures { λ r. ⌜ Held (now (stack .exit)) (r .len) (r .ending) (arrived [] (wordOf (now (word .entry)))) ⌝ }
+    ensures { λ r. ⌜ r .len ≤ length (now (word .entry)) ⌝ }
 {
     let mut top = Top { len: 0, ending: 0 };
     let mut i = 0;
@@ -115,6 +116,7 @@ pub(crate) fn arrive_all(stack: &mut [u8], word: &[u8]) -> Top
 pub(crate) fn arrive_inverse(stack: &mut [u8], word: &[u8]) -> Top
     requires { ⌜ 2 * length (now word) ≤ length (now stack) ⌝ }
     ensures { λ r. ⌜ Held (now (stack .exit)) (r .len) (r .ending) (arrived [] (inverse (wordOf (now (word .entry))))) ⌝ }
+    ensures { λ r. ⌜ r .len ≤ 2 * length (now (word .entry)) ⌝ }
 {
     let mut top = Top { len: 0, ending: 0 };
     let mut i = word.len();
