@@ -119,7 +119,7 @@ pub fn invert(word: &[u8], out: &mut [u8]) -> Written
     }
 }
 
-// Says whether `word` is in normal form. Questions 8 and 10 come first, so the test inside makes at most as many calls in depth as question 8
+// Says whether `word` is in normal form. Questions 8 and 10 come first, so the test inside is at most as many calls deep as question 8
 // lets letters pass.
 pub fn is_normal(word: &[u8]) -> Tested
     ensures { λ r. ⌜ Tests (now (word .entry)) r ⌝ }
