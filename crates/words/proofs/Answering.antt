@@ -4,10 +4,10 @@ use mathlib.Core.Path.{_≡_, refl, sym, ap, _∙_}
 use mathlib.Core.List.{List, [], _∷_}
 use Prim.Native.Nat.{ℕ, _*_, _≤_}
 use native.Mathlib.Omega.{arith}
-use lib.Dec.{leb}
 use lib.ListN.{length, take}
 use lib.Seq.{take-at}
 use borrow.Author.Tests.{le-leb}
+use Rattle.limits.specs.Limits.{mostLetters}
 use Rattle.words.specs.Word.{Word, nf}
 use Rattle.words.specs.Bytes.{word, bytes}
 use Rattle.words.specs.Questions.{firstOther, question10, question14, ofLetters, ofWord}
@@ -15,7 +15,7 @@ use Rattle.words.specs.Slices.{overwritten, written}
 use Rattle.words.specs.Calls.{lengthOr, Writes}
 use Rattle.words.specs.declared.Letters.{Letters}
 use Rattle.words.specs.declared.Refusal.{Refusal}
-use Rattle.words.specs.declared.Refusal.the-variants.{TooManyLetters, NotALetter, OutputTooShort}
+use Rattle.words.specs.declared.Refusal.the-variants.{OutputTooShort}
 use Rattle.words.specs.declared.Asked.{Asked}
 use Rattle.words.specs.declared.Asked.the-variants.{Passed, Refused}
 use Rattle.words.specs.declared.Written.{Written}
@@ -23,11 +23,11 @@ use Rattle.words.specs.declared.Written.the-variants.{Length, Refused as
 use Rattle.words.proofs.Asking.{asks-yes, yes-first, of-word-room, of-word-refused, of-letters-short}
 use Rattle.words.proofs.Bytes.{length-bytes}
 
-pub of-word-passes : (w : List ℕ) (needed room : ℕ) → length w ≤ 4096 → length w ≤ firstOther w → needed ≤ room → ofWord w needed room ≡ Passed
+pub of-word-passes : (w : List ℕ) (needed room : ℕ) → length w ≤ mostLetters → length w ≤ firstOther w → needed ≤ room → ofWord w needed room ≡ Passed
 of-word-passes w needed room short letters enough =
-    yes-first (leb (length w) 4096) TooManyLetters (question10 w ∷ question14 needed room ∷ []) (le-leb (length w) 4096 short)
-    ∙ yes-first (leb (length w) (firstOther w)) (NotALetter (firstOther w)) (question14 needed room ∷ []) (le-leb (length w) (firstOther w) letters)
-    ∙ yes-first (leb needed room) OutputTooShort [] (le-leb needed room enough)
+    yes-first _ _ (question10 w ∷ question14 needed room ∷ []) (le-leb (length w) mostLetters short)
+    ∙ yes-first _ _ (question14 needed room ∷ []) (le-leb (length w) (firstOther w) letters)
+    ∙ yes-first _ _ [] (le-leb needed room enough)
 
 module _ (f : Word → Word) (k : ℕ) (w before : List ℕ) (r : Written) (after : List ℕ) (writes : Writes f k w before r after)
     (passed : ofWord w (k * length w) (length before) ≡ Passed) where
@@ -51,18 +51,18 @@ passed-of-answer (Refused other) n e = let z : _≡_ {A = ℕ} 0 1 = cc in absur
 pub take-overwritten : (new old : List ℕ) (n : ℕ) → n ≡ length new → take n (overwritten new old) ≡ new
 take-overwritten new old n e = take-at new _ n (sym e)
 
--- ---- a reduction into 4,096 bytes, which are room enough for a word that passes question 8
+-- ---- a reduction into as many bytes as question 8 lets letters pass, which are room enough for a word that passes question 8
 
-room-enough : (w : List ℕ) → ofWord w (1 * length w) 4096 ≡ ofLetters w
+room-enough : (w : List ℕ) → ofWord w (1 * length w) mostLetters ≡ ofLetters w
 room-enough w = go (ofLetters w) refl
   where
-    go : (a : Asked) → ofLetters w ≡ a → ofWord w (1 * length w) 4096 ≡ a
+    go : (a : Asked) → ofLetters w ≡ a → ofWord w (1 * length w) mostLetters ≡ a
     go Passed e =
-        of-word-room w (1 * length w) 4096 e
-        ∙ asks-yes _ OutputTooShort (le-leb (1 * length w) 4096 (omega (arith, of-letters-short w e)))
-    go (Refused refusal) e = of-word-refused w (1 * length w) 4096 e
+        of-word-room w (1 * length w) mostLetters e
+        ∙ asks-yes _ OutputTooShort (le-leb (1 * length w) mostLetters (omega (arith, of-letters-short w e)))
+    go (Refused refusal) e = of-word-refused w (1 * length w) mostLetters e
 
-module _ (w before after : List ℕ) (r : Written) (h : Writes nf 1 w before r after) (room : length before ≡ 4096) where
+module _ (w before after : List ℕ) (r : Written) (h : Writes nf 1 w before r after) (room : length before ≡ mostLetters) where
   questions : ofWord w (1 * length w) (length before) ≡ ofLetters w
   questions = ap (ofWord w (1 * length w)) room ∙ room-enough w
 

@@ -7,6 +7,7 @@ use native.Mathlib.Omega.{arith}
 use lib.Dec.{leb}
 use lib.ListN.{length}
 use borrow.Author.Tests.{leb-true}
+use Rattle.limits.specs.Limits.{mostLetters}
 use Rattle.words.specs.Questions.{asks, firstNo, question8, question10, question14, ofLetters, ofWord}
 use Rattle.words.specs.declared.Refusal.{Refusal}
 use Rattle.words.specs.declared.Refusal.the-variants.{TooManyLetters, OutputTooShort}
@@ -66,9 +67,9 @@ first-no-tail (Refused refusal) questions e = absurd (passed-not-refused e)
 
 -- ---- the questions of a single word
 
-pub of-letters-short : (w : List ℕ) → ofLetters w ≡ Passed → length w ≤ 4096
+pub of-letters-short : (w : List ℕ) → ofLetters w ≡ Passed → length w ≤ mostLetters
 of-letters-short w e =
-    leb-true (length w) 4096 (asks-passed (leb (length w) 4096) TooManyLetters (first-no-head (question8 (length w)) (question10 w ∷ []) e))
+    leb-true (length w) mostLetters (asks-passed (leb (length w) mostLetters) TooManyLetters (first-no-head (question8 (length w)) (question10 w ∷ []) e))
 
 module _ (w : List ℕ) (needed room : ℕ) where
   pub of-word-refused : {refusal : Refusal} → ofLetters w ≡ Refused refusal → ofWord w needed room ≡ Refused refusal
@@ -77,9 +78,9 @@ module _ (w : List ℕ) (needed room : ℕ) where
   pub of-word-room : ofLetters w ≡ Passed → ofWord w needed room ≡ question14 needed room
   of-word-room e = first-no-passed (question8 (length w) ∷ question10 w ∷ []) (question14 needed room ∷ []) e ∙ first-no-one (question14 needed room)
 
-  pub of-word-passed : ofWord w needed room ≡ Passed → (length w ≤ 4096) × (needed ≤ room)
+  pub of-word-passed : ofWord w needed room ≡ Passed → (length w ≤ mostLetters) × (needed ≤ room)
   of-word-passed e =
       let second = first-no-tail (question8 (length w)) (question10 w ∷ question14 needed room ∷ []) e in (
-        leb-true (length w) 4096 (asks-passed (leb (length w) 4096) TooManyLetters (first-no-head (question8 (length w)) (question10 w ∷ question14 needed room ∷ []) e)),
+        leb-true (length w) mostLetters (asks-passed (leb (length w) mostLetters) TooManyLetters (first-no-head (question8 (length w)) (question10 w ∷ question14 needed room ∷ []) e)),
         leb-true needed room (asks-passed (leb needed room) OutputTooShort (sym (first-no-one (question14 needed room)) ∙ first-no-tail (question10 w) (question14 needed room ∷ []) second)),
       )

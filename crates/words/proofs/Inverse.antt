@@ -6,19 +6,15 @@
 -- Assumes nothing.
 use mathlib.Core.Path.{_≡_, sym, ap, _∙_}
 use mathlib.Core.List.{[], _∷_, _++_, append-assoc, append-nil}
-use Prim.Native.Nat.{_*_, _≤_}
+use Prim.Native.Nat.{_≤_}
 use native.Mathlib.Omega.{arith}
-use lib.ListN.{length, length-append}
+use lib.ListN.{length}
 use Rattle.words.specs.Word.{Letter, R, S, Word, Equal, rr, sss, none, back, then, inverse, inverseLetter}
 use Rattle.words.proofs.NormalForm.{equal-path, equal-inside, equal-behind, equal-before}
 
 pub length-inverse-letter : (a : Letter) → length (inverseLetter a) ≤ 2
 length-inverse-letter R = omega arith
 length-inverse-letter S = omega arith
-
-pub inverse-length : (w : Word) → length (inverse w) ≤ 2 * length w
-inverse-length [] = omega arith
-inverse-length (a ∷ w) = omega (arith, inverse-length w, length-append (inverse w) (inverseLetter a), length-inverse-letter a)
 
 letter-inverse : (a : Letter) → Equal (a ∷ inverseLetter a) []
 letter-inverse R = rr [] []

@@ -21,14 +21,14 @@ use Rattle.words.proofs.Reduced.{Reduced, reduced-of-normal, normal-of-
 pub equal-path : {u v : Word} → u ≡ v → Equal u v
 equal-path {u} e = subst (λ (l : Word). Equal u l) e none
 
+-- a word with a part behind x, inside a longer word
+inside : (p x f q : Word) → p ++ ((x ++ f) ++ q) ≡ (p ++ x) ++ (f ++ q)
+inside p x f q = ap (λ (l : Word). p ++ l) (append-assoc x f q) ∙ sym (append-assoc p x (f ++ q))
+
 -- the rules may be used inside a longer word
 pub equal-inside : (p q : Word) {u v : Word} → Equal u v → Equal (p ++ (u ++ q)) (p ++ (v ++ q))
-equal-inside p q (rr x y) =
-    then (equal-path (ap (λ (l : Word). p ++ l) (append-assoc x (R ∷ R ∷ y) q) ∙ sym (append-assoc p x (R ∷ R ∷ (y ++ q)))))
-    (then (rr (p ++ x) (y ++ q)) (equal-path (append-assoc p x (y ++ q) ∙ ap (λ (l : Word). p ++ l) (sym (append-assoc x y q)))))
-equal-inside p q (sss x y) =
-    then (equal-path (ap (λ (l : Word). p ++ l) (append-assoc x (S ∷ S ∷ S ∷ y) q) ∙ sym (append-assoc p x (S ∷ S ∷ S ∷ (y ++ q)))))
-    (then (sss (p ++ x) (y ++ q)) (equal-path (append-assoc p x (y ++ q) ∙ ap (λ (l : Word). p ++ l) (sym (append-assoc x y q)))))
+equal-inside p q (rr x y) = then (equal-path (inside p x _ q)) (then (rr (p ++ x) (y ++ q)) (equal-path (sym (inside p x y q))))
+equal-inside p q (sss x y) = then (equal-path (inside p x _ q)) (then (sss (p ++ x) (y ++ q)) (equal-path (sym (inside p x y q))))
 equal-inside p q none = none
 equal-inside p q (back e) = back (equal-inside p q e)
 equal-inside p q (then e f) = then (equal-inside p q e) (equal-inside p q f)

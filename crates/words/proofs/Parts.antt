@@ -1,6 +1,9 @@
--- A normal word by its parts: what the first letters say of it, and what is then left to test. Assumes nothing.
+-- A word by its parts: that the normal words are those that are series of parts, and what the first letters leave to test.
+--     parts-normal      a word is normal exactly when it is nothing, or parts that follow one another as document 01 says
+-- Assumes nothing.
 use mathlib.Core.Bool.{Bool}
 use mathlib.Core.Path.{_≡_, sym, ap, subst, _∙_}
+use mathlib.Core.Logic.{_↔_, inl, inr}
 use mathlib.Core.List.{List, [], _∷_}
 use Prim.Native.Nat.{ℕ, suc, _+_, _<_}
 use native.Mathlib.Numerals.{add-one}
@@ -9,10 +12,57 @@ use lib.Seq.{drop-cons, drop-length}
 use Rattle.words.specs.Word.{Letter, R, S, Word, Normal}
 use Rattle.words.specs.Bytes.{letter, word}
 use Rattle.words.specs.Telling.{Tells}
-use Rattle.words.specs.Parts.{NotFirst, FromRPart, FromSPart}
+use Rattle.words.specs.Parts.{FromRPart, no-r-part, r-part, FromSPart, no-s-part, s-part, ss-part, Parts}
 use Rattle.words.proofs.Bytes.{letter-r, letter-s}
 use Rattle.words.proofs.Telling.{tells-same}
-use Rattle.words.proofs.Reduced.{normal-of-reduced, reduced-of-normal, normal-tail}
+use Rattle.words.proofs.Reduced.{Reduced, normal-of-reduced, reduced-of-normal}
+
+-- ---- the normal words are the series of parts
+
+reduced-r : {w : Word} → FromSPart w → Reduced w → Reduced (R ∷ w)
+reduced-r no-s-part h = tt
+reduced-r (s-part p) h = h
+reduced-r (ss-part p) h = h
+
+reduced-s : {w : Word} → FromRPart w → Reduced w → Reduced (S ∷ w)
+reduced-s no-r-part h = tt
+reduced-s (r-part p) h = h
+
+reduced-ss : {w : Word} → FromRPart w → Reduced w → Reduced (S ∷ S ∷ w)
+reduced-ss no-r-part h = tt
+reduced-ss (r-part p) h = h
+
+mutual
+  from-r-reduced : {w : Word} → FromRPart w → Reduced w
+  from-r-reduced no-r-part = tt
+  from-r-reduced (r-part p) = reduced-r p (from-s-reduced p)
+
+  from-s-reduced : {w : Word} → FromSPart w → Reduced w
+  from-s-reduced no-s-part = tt
+  from-s-reduced (s-part p) = reduced-s p (from-r-reduced p)
+  from-s-reduced (ss-part p) = reduced-ss p (from-r-reduced p)
+
+-- what stands behind an R part in a reduced word
+reduced-behind-r : (w : Word) → Reduced (R ∷ w) → FromSPart w
+reduced-behind-r [] h = no-s-part
+reduced-behind-r (R ∷ w) h = absurd h
+reduced-behind-r (S ∷ []) h = s-part no-r-part
+reduced-behind-r (S ∷ R ∷ w) h = s-part (r-part (reduced-behind-r w h))
+reduced-behind-r (S ∷ S ∷ []) h = ss-part no-r-part
+reduced-behind-r (S ∷ S ∷ R ∷ w) h = ss-part (r-part (reduced-behind-r w h))
+reduced-behind-r (S ∷ S ∷ S ∷ w) h = absurd h
+
+reduced-parts : (w : Word) → Reduced w → Parts w
+reduced-parts [] h = inl no-r-part
+reduced-parts (R ∷ w) h = inl (r-part (reduced-behind-r w h))
+reduced-parts (S ∷ w) h = inr (reduced-behind-r (S ∷ w) h)
+
+parts-reduced : (w : Word) → Parts w → Reduced w
+parts-reduced w (inl p) = from-r-reduced p
+parts-reduced w (inr p) = from-s-reduced p
+
+pub parts-normal : (w : Word) → Parts w ↔ Normal w
+parts-normal w = (λ p. normal-of-reduced w (parts-reduced w p), λ n. reduced-parts w (reduced-of-normal w n))
 
 -- ---- the word from a place on, by the byte there
 
@@ -30,66 +80,61 @@ rest-none w at e = ap (λ (n : ℕ). word (drop n w)) e ∙ ap word (drop-length
 
 -- ---- what the first letters leave to test
 
-normal-r : (w : Word) → Normal w → NotFirst R w → Normal (R ∷ w)
-normal-r [] n f = normal-of-reduced (R ∷ []) tt
-normal-r (R ∷ w) n f = absurd f
-normal-r (S ∷ w) n f = normal-of-reduced (R ∷ S ∷ w) (reduced-of-normal (S ∷ w) n)
+behind-r : {w : Word} → FromRPart (R ∷ w) → FromSPart w
+behind-r (r-part p) = p
 
-normal-r-first : (w : Word) → Normal (R ∷ w) → NotFirst R w
-normal-r-first [] n = tt
-normal-r-first (R ∷ w) n = reduced-of-normal (R ∷ R ∷ w) n
-normal-r-first (S ∷ w) n = tt
+-- behind an S stands an R part, unless a second S does
+behind-s : {w : Word} → FromSPart (S ∷ R ∷ w) → FromRPart (R ∷ w)
+behind-s (s-part p) = p
 
-normal-ss : (w : Word) → Normal w → NotFirst S w → Normal (S ∷ S ∷ w)
-normal-ss [] n f = normal-of-reduced (S ∷ S ∷ []) tt
-normal-ss (R ∷ w) n f = normal-of-reduced (S ∷ S ∷ R ∷ w) (reduced-of-normal (R ∷ w) n)
-normal-ss (S ∷ w) n f = absurd f
+no-r-part-from-s : {w : Word} → FromRPart (S ∷ w) → ⊥
+no-r-part-from-s p = elim p [ ]
 
-normal-ss-first : (w : Word) → Normal (S ∷ S ∷ w) → NotFirst S w
-normal-ss-first [] n = tt
-normal-ss-first (R ∷ w) n = tt
-normal-ss-first (S ∷ w) n = reduced-of-normal (S ∷ S ∷ S ∷ w) n
+no-s-part-from-r : {w : Word} → FromSPart (R ∷ w) → ⊥
+no-s-part-from-r p = elim p [ ]
 
-pub nothing-normal : {x : Word} → x ≡ [] → Normal x
-nothing-normal e = subst Normal (sym e) (normal-of-reduced [] tt)
+behind-ss : {w : Word} → FromSPart (S ∷ S ∷ w) → FromRPart w
+behind-ss (s-part p) = absurd (no-r-part-from-s p)
+behind-ss (ss-part p) = p
+
+parts-from-r : {w : Word} → Parts (R ∷ w) → FromRPart (R ∷ w)
+parts-from-r (inl p) = p
+parts-from-r (inr p) = absurd (no-s-part-from-r p)
+
+parts-from-s : {w : Word} → Parts (S ∷ w) → FromSPart (S ∷ w)
+parts-from-s (inl p) = absurd (no-r-part-from-s p)
+parts-from-s (inr p) = p
+
+pub nothing-parts : {x : Word} → x ≡ [] → Parts x
+nothing-parts e = subst Parts (sym e) (inl no-r-part)
 
 pub nothing-from-r : {x : Word} → x ≡ [] → FromRPart x
-nothing-from-r e = (nothing-normal e, subst (NotFirst S) (sym e) tt)
+nothing-from-r e = subst FromRPart (sym e) no-r-part
 
 pub nothing-from-s : {x : Word} → x ≡ [] → FromSPart x
-nothing-from-s e = (nothing-normal e, subst (NotFirst R) (sym e) tt)
+nothing-from-s e = subst FromSPart (sym e) no-s-part
 
 pub s-alone : {x y : Word} → x ≡ S ∷ y → y ≡ [] → FromSPart x
-s-alone e f = subst FromSPart (sym (e ∙ ap (λ (w : Word). S ∷ w) f)) (normal-of-reduced (S ∷ []) tt, tt)
+s-alone e f = subst FromSPart (sym (e ∙ ap (λ (w : Word). S ∷ w) f)) (s-part no-r-part)
 
 pub not-from-r : {x y : Word} → x ≡ S ∷ y → FromRPart x → ⊥
-not-from-r e p = subst (NotFirst S) e (p .1)
+not-from-r e p = no-r-part-from-s (subst FromRPart e p)
 
 pub not-from-s : {x y : Word} → x ≡ R ∷ y → FromSPart x → ⊥
-not-from-s e p = subst (NotFirst R) e (p .1)
+not-from-s e p = no-s-part-from-r (subst FromSPart e p)
 
 module _ (b : Bool) {x : Word} where
   pub r-then : (w : Word) → x ≡ R ∷ w → Tells b (FromSPart w) → Tells b (FromRPart x)
-  r-then w e d =
-      subst (λ (v : Word). Tells b (FromRPart v)) (sym e)
-      (tells-same b (λ p. (normal-r w (p .0) (p .1), tt)) (λ p. (normal-tail R w (p .0), normal-r-first w (p .0))) d)
+  r-then w e d = subst (λ (v : Word). Tells b (FromRPart v)) (sym e) (tells-same b r-part behind-r d)
 
   pub s-then-r : (w : Word) → x ≡ S ∷ R ∷ w → Tells b (FromRPart (R ∷ w)) → Tells b (FromSPart x)
-  s-then-r w e d =
-      subst (λ (v : Word). Tells b (FromSPart v)) (sym e)
-      (tells-same b
-      (λ p. (normal-of-reduced (S ∷ R ∷ w) (reduced-of-normal (R ∷ w) (p .0)), tt))
-      (λ p. (normal-tail S (R ∷ w) (p .0), tt)) d)
+  s-then-r w e d = subst (λ (v : Word). Tells b (FromSPart v)) (sym e) (tells-same b s-part behind-s d)
 
   pub ss-then : (w : Word) → x ≡ S ∷ S ∷ w → Tells b (FromRPart w) → Tells b (FromSPart x)
-  ss-then w e d =
-      subst (λ (v : Word). Tells b (FromSPart v)) (sym e)
-      (tells-same b
-      (λ p. (normal-ss w (p .0) (p .1), tt))
-      (λ p. (normal-tail S w (normal-tail S (S ∷ w) (p .0)), normal-ss-first w (p .0))) d)
+  ss-then w e d = subst (λ (v : Word). Tells b (FromSPart v)) (sym e) (tells-same b ss-part behind-ss d)
 
-  pub normal-by-r : (w : Word) → x ≡ R ∷ w → Tells b (FromRPart x) → Tells b (Normal x)
-  normal-by-r w e d = tells-same b (λ p. p .0) (λ n. (n, subst (NotFirst S) (sym e) tt)) d
+  pub parts-by-r : (w : Word) → x ≡ R ∷ w → Tells b (FromRPart x) → Tells b (Parts x)
+  parts-by-r w e d = tells-same b inl (λ p. subst FromRPart (sym e) (parts-from-r (subst Parts e p))) d
 
-  pub normal-by-s : (w : Word) → x ≡ S ∷ w → Tells b (FromSPart x) → Tells b (Normal x)
-  normal-by-s w e d = tells-same b (λ p. p .0) (λ n. (n, subst (NotFirst R) (sym e) tt)) d
+  pub parts-by-s : (w : Word) → x ≡ S ∷ w → Tells b (FromSPart x) → Tells b (Parts x)
+  parts-by-s w e d = tells-same b inr (λ p. subst FromSPart (sym e) (parts-from-s (subst Parts e p))) d

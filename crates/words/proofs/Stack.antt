@@ -1,4 +1,4 @@
--- A stack that holds a word: what a letter put on top, and letters taken off, make of it. Assumes nothing.
+-- A stack that holds a word: what a letter that is pushed, and letters that are popped, make of it. Assumes nothing.
 use mathlib.Core.Path.{_≡_, refl, sym, ap, _∙_}
 use mathlib.Core.List.{List, [], _∷_, _++_, reverse, reverse-cons, reverse-append, reverse-reverse, map-append}
 use Prim.Native.Nat.{ℕ, suc, _+_, _-_, _≤_, _<_}
@@ -52,8 +52,8 @@ held-below s len ending w h = spells-below s len w (h .spelled)
 pub held-length : (s : List ℕ) (len ending : ℕ) (w : Word) → Held s len ending w → len ≡ length w
 held-length s len ending w h = sym (length-take-le len s (h .within)) ∙ ap length (h .spelled) ∙ length-bytes (reverse w) ∙ length-reverse w
 
-pub held-put : (s : List ℕ) (len ending : ℕ) (w : Word) (a : Letter) → Held s len ending w → len < length s → Held (set s len (byte a)) (len + 1) (endingOf (a ∷ w)) (a ∷ w)
-held-put s len ending w a h k =
+pub held-push : (s : List ℕ) (len ending : ℕ) (w : Word) (a : Letter) → Held s len ending w → len < length s → Held (set s len (byte a)) (len + 1) (endingOf (a ∷ w)) (a ∷ w)
+held-push s len ending w a h k =
     record {
       within = rw length-set (omega arith);
       spelled =
@@ -62,8 +62,8 @@ held-put s len ending w a h k =
       ends = refl;
     }
 
-pub held-off : (s : List ℕ) (len ending : ℕ) (x w : Word) → Held s len ending (x ++ w) → Held s (len - length x) (endingOf (below s (len - length x))) w
-held-off s len ending x w h =
+pub held-pop : (s : List ℕ) (len ending : ℕ) (x w : Word) → Held s len ending (x ++ w) → Held s (len - length x) (endingOf (below s (len - length x))) w
+held-pop s len ending x w h =
     record { within = omega (arith, h .within); spelled = spelled; ends = ap endingOf (spells-below s (len - length x) w spelled) }
   where
     height : length (bytes (reverse w)) ≡ len - length x
@@ -77,7 +77,7 @@ held-off s len ending x w h =
 
 cancels-r : (s : List ℕ) (len : ℕ) (w : Word) → Held s len 1 w → Held s (len - 1) (endingOf (below s (len - 1))) (arrive R w)
 cancels-r s len [] h = absurd (omega (arith, h .ends))
-cancels-r s len (R ∷ w) h = held-off s len 1 (R ∷ []) w h
+cancels-r s len (R ∷ w) h = held-pop s len 1 (R ∷ []) w h
 cancels-r s len (S ∷ []) h = absurd (omega (arith, h .ends))
 cancels-r s len (S ∷ R ∷ w) h = absurd (omega (arith, h .ends))
 cancels-r s len (S ∷ S ∷ w) h = absurd (omega (arith, h .ends))
@@ -87,70 +87,81 @@ cancels-ss s len [] h = absurd (omega (arith, h .ends))
 cancels-ss s len (R ∷ w) h = absurd (omega (arith, h .ends))
 cancels-ss s len (S ∷ []) h = absurd (omega (arith, h .ends))
 cancels-ss s len (S ∷ R ∷ w) h = absurd (omega (arith, h .ends))
-cancels-ss s len (S ∷ S ∷ w) h = held-off s len 3 (S ∷ S ∷ []) w h
+cancels-ss s len (S ∷ S ∷ w) h = held-pop s len 3 (S ∷ S ∷ []) w h
 
-puts-r : (s : List ℕ) (len ending : ℕ) (w : Word) → (ending ≡ 1 → ⊥) → Held s len ending w → len < length s → Held (set s len 82) (len + 1) 1 (arrive R w)
-puts-r s len ending [] other h k = held-put s len ending [] R h k
-puts-r s len ending (R ∷ w) other h k = absurd (other (h .ends))
-puts-r s len ending (S ∷ w) other h k = held-put s len ending (S ∷ w) R h k
+pushes-r : (s : List ℕ) (len ending : ℕ) (w : Word) → (ending ≡ 1 → ⊥) → Held s len ending w → len < length s → Held (set s len 82) (len + 1) 1 (arrive R w)
+pushes-r s len ending [] other h k = held-push s len ending [] R h k
+pushes-r s len ending (R ∷ w) other h k = absurd (other (h .ends))
+pushes-r s len ending (S ∷ w) other h k = held-push s len ending (S ∷ w) R h k
 
-puts-second-s : (s : List ℕ) (len : ℕ) (w : Word) → Held s len 2 w → len < length s → Held (set s len 83) (len + 1) 3 (arrive S w)
-puts-second-s s len [] h k = absurd (omega (arith, h .ends))
-puts-second-s s len (R ∷ w) h k = absurd (omega (arith, h .ends))
-puts-second-s s len (S ∷ []) h k = held-put s len 2 (S ∷ []) S h k
-puts-second-s s len (S ∷ R ∷ w) h k = held-put s len 2 (S ∷ R ∷ w) S h k
-puts-second-s s len (S ∷ S ∷ w) h k = absurd (omega (arith, h .ends))
+pushes-second-s : (s : List ℕ) (len : ℕ) (w : Word) → Held s len 2 w → len < length s → Held (set s len 83) (len + 1) 3 (arrive S w)
+pushes-second-s s len [] h k = absurd (omega (arith, h .ends))
+pushes-second-s s len (R ∷ w) h k = absurd (omega (arith, h .ends))
+pushes-second-s s len (S ∷ []) h k = held-push s len 2 (S ∷ []) S h k
+pushes-second-s s len (S ∷ R ∷ w) h k = held-push s len 2 (S ∷ R ∷ w) S h k
+pushes-second-s s len (S ∷ S ∷ w) h k = absurd (omega (arith, h .ends))
 
-puts-first-s : (s : List ℕ) (len ending : ℕ) (w : Word) → (ending ≡ 2 → ⊥) → (ending ≡ 3 → ⊥) → Held s len ending w → len < length s → Held (set s len 83) (len + 1) 2 (arrive S w)
-puts-first-s s len ending [] one two h k = held-put s len ending [] S h k
-puts-first-s s len ending (R ∷ w) one two h k = held-put s len ending (R ∷ w) S h k
-puts-first-s s len ending (S ∷ []) one two h k = absurd (one (h .ends))
-puts-first-s s len ending (S ∷ R ∷ w) one two h k = absurd (one (h .ends))
-puts-first-s s len ending (S ∷ S ∷ w) one two h k = absurd (two (h .ends))
+pushes-first-s : (s : List ℕ) (len ending : ℕ) (w : Word) → ending ≤ 1 → Held s len ending w → len < length s → Held (set s len 83) (len + 1) 2 (arrive S w)
+pushes-first-s s len ending [] low h k = held-push s len ending [] S h k
+pushes-first-s s len ending (R ∷ w) low h k = held-push s len ending (R ∷ w) S h k
+pushes-first-s s len ending (S ∷ []) low h k = absurd (omega (arith, h .ends))
+pushes-first-s s len ending (S ∷ R ∷ w) low h k = absurd (omega (arith, h .ends))
+pushes-first-s s len ending (S ∷ S ∷ w) low h k = absurd (omega (arith, h .ends))
 
--- The five ways in which a letter arrives, each by what the code then knows: b is the letter's byte, and `put` and `off` say what a
--- letter put on top, or letters taken off, leave of the stack s.
+-- The five ways in which a letter arrives, each by what the code then knows: b is the letter's byte, and `push` and `pop` say what a
+-- letter that is pushed, or letters that are popped, leave of the stack s.
 module _ (s : List ℕ) (len ending b : ℕ) (s′ : List ℕ) (len′ ending′ : ℕ) where
-  abbrev Puts : ℕ → ℕ → Type 0
-  Puts byte made = (len′ ≡ len + 1) × (ending′ ≡ made) × (s′ ≡ set s len byte)
+  abbrev Pushes : ℕ → ℕ → Type 0
+  Pushes byte made = (len′ ≡ len + 1) × (ending′ ≡ made) × (s′ ≡ set s len byte)
 
-  abbrev TakesOff : ℕ → Type 0
-  TakesOff count = (len′ ≡ len - count) × (ending′ ≡ endingOf (below s (len - count)))
+  abbrev Pops : ℕ → Type 0
+  Pops count = (len′ ≡ len - count) × (ending′ ≡ endingOf (below s (len - count)))
 
-  pub r-cancels : b ≡ 82 → ending ≡ 1 → TakesOff 1 → Arrives (letter b ∷ []) s len ending s len′ ending′
-  r-cancels is meets off =
+  pub r-cancels : b ≡ 82 → ending ≡ 1 → Pops 1 → Arrives (letter b ∷ []) s len ending s len′ ending′
+  r-cancels is meets pop =
       record {
-        held = λ w h. rw (letter-r b is, off .0, off .1) (cancels-r s len w (rw meets at h));
+        held = λ w h. rw (letter-r b is, pop .0, pop .1) (cancels-r s len w (rw meets at h));
         grows = omega arith;
       }
 
-  pub r-stays : b ≡ 82 → (ending ≡ 1 → ⊥) → len < length s → Puts 82 1 → Arrives (letter b ∷ []) s len ending s′ len′ ending′
-  r-stays is meets room put =
+  pub r-stays : b ≡ 82 → (ending ≡ 1 → ⊥) → len < length s → Pushes 82 1 → Arrives (letter b ∷ []) s len ending s′ len′ ending′
+  r-stays is meets room push =
       record {
-        held = λ w h. rw (letter-r b is, put .0, put .1, put .2) (puts-r s len ending w meets h room);
+        held = λ w h. rw (letter-r b is, push .0, push .1, push .2) (pushes-r s len ending w meets h room);
         grows = omega arith;
       }
 
-  pub s-cancels : (b ≡ 82 → ⊥) → ending ≡ 3 → TakesOff 2 → Arrives (letter b ∷ []) s len ending s len′ ending′
-  s-cancels is meets off =
+  pub s-cancels : (b ≡ 82 → ⊥) → ending ≡ 3 → Pops 2 → Arrives (letter b ∷ []) s len ending s len′ ending′
+  s-cancels is meets pop =
       record {
-        held = λ w h. rw (letter-s b is, off .0, off .1) (cancels-ss s len w (rw meets at h));
+        held = λ w h. rw (letter-s b is, pop .0, pop .1) (cancels-ss s len w (rw meets at h));
         grows = omega arith;
       }
 
-  pub s-doubles : (b ≡ 82 → ⊥) → ending ≡ 2 → len < length s → Puts 83 3 → Arrives (letter b ∷ []) s len ending s′ len′ ending′
-  s-doubles is meets room put =
+  pub s-doubles : (b ≡ 82 → ⊥) → ending ≡ 2 → len < length s → Pushes 83 3 → Arrives (letter b ∷ []) s len ending s′ len′ ending′
+  s-doubles is meets room push =
       record {
-        held = λ w h. rw (letter-s b is, put .0, put .1, put .2) (puts-second-s s len w (rw meets at h) room);
+        held = λ w h. rw (letter-s b is, push .0, push .1, push .2) (pushes-second-s s len w (rw meets at h) room);
         grows = omega arith;
       }
 
-  pub s-begins : (b ≡ 82 → ⊥) → (ending ≡ 2 → ⊥) → (ending ≡ 3 → ⊥) → len < length s → Puts 83 2 → Arrives (letter b ∷ []) s len ending s′ len′ ending′
-  s-begins is one two room put =
+  pub s-begins : (b ≡ 82 → ⊥) → ending ≤ 1 → len < length s → Pushes 83 2 → Arrives (letter b ∷ []) s len ending s′ len′ ending′
+  s-begins is meets room push =
       record {
-        held = λ w h. rw (letter-s b is, put .0, put .1, put .2) (puts-first-s s len ending w one two h room);
+        held = λ w h. rw (letter-s b is, push .0, push .1, push .2) (pushes-first-s s len ending w meets h room);
         grows = omega arith;
       }
+
+-- there are four endings, so one that is none of the first three is the last
+pub ending-3 : (s : List ℕ) (len ending : ℕ) → SomeHeld s len ending → (ending ≡ 0 → ⊥) → (ending ≡ 1 → ⊥) → (ending ≡ 2 → ⊥) → ending ≡ 3
+ending-3 s len ending (w, h) not-0 not-1 not-2 = at w (h .ends)
+  where
+    at : (w : Word) → ending ≡ endingOf w → ending ≡ 3
+    at [] e = absurd (not-0 e)
+    at (R ∷ w) e = absurd (not-1 e)
+    at (S ∷ []) e = absurd (not-2 e)
+    at (S ∷ R ∷ w) e = absurd (not-2 e)
+    at (S ∷ S ∷ w) e = e
 
 -- a word whose ending is R has a letter, and one whose ending is SS has two
 pub height-r : (s : List ℕ) (len ending : ℕ) → SomeHeld s len ending → ending ≡ 1 → 1 ≤ len

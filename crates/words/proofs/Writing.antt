@@ -22,7 +22,7 @@ module _ (s : List ℕ) (len ending : ℕ) (x : Word) (h : Held s len ending (ar
   unfolding nf
   held-spells = h .spelled
 
-  pub held-nf-length : len ≡ length (nf x)
+  held-nf-length : len ≡ length (nf x)
   unfolding nf
   held-nf-length = held-length s len ending (arrived [] x) h ∙ sym (length-reverse (arrived [] x))
 

@@ -1,20 +1,22 @@
--- What the two functions that test normality promise. Document 01: "An R part is followed by an S part or nothing, an S part by an R
--- part or nothing; an R part is one R and an S part is S or SS." Assumes nothing: these are definitions.
+-- A word as a series of parts. Document 01: "An R part is followed by an S part or nothing, an S part by an R part or nothing; an R part is
+-- one R and an S part is S or SS." Assumes nothing: these are definitions. That just the normal words are such series is `parts-normal` of
+-- `proofs/Parts.antt`.
+use mathlib.Core.Logic.{_⊎_}
 use mathlib.Core.List.{[], _∷_}
-use Rattle.words.specs.Word.{Letter, R, S, Word, Normal}
+use Rattle.words.specs.Word.{R, S, Word}
 
--- w does not begin with the letter
-abbrev pub NotFirst : Letter → Word → Type 0
-NotFirst a [] = Unit {0}
-NotFirst R (R ∷ w) = ⊥
-NotFirst R (S ∷ w) = Unit {0}
-NotFirst S (R ∷ w) = Unit {0}
-NotFirst S (S ∷ w) = ⊥
+mutual
+  -- an R part and what follows it, or nothing
+  pub data FromRPart : Word → Type 0 where
+    no-r-part : FromRPart []
+    r-part : {w : Word} → FromSPart w → FromRPart (R ∷ w)
 
--- w is nothing, or a normal word that begins with an R part
-abbrev pub FromRPart : Word → Type 0
-FromRPart w = Normal w × NotFirst S w
+  -- an S part and what follows it, or nothing
+  pub data FromSPart : Word → Type 0 where
+    no-s-part : FromSPart []
+    s-part : {w : Word} → FromRPart w → FromSPart (S ∷ w)
+    ss-part : {w : Word} → FromRPart w → FromSPart (S ∷ S ∷ w)
 
--- w is nothing, or a normal word that begins with an S part
-abbrev pub FromSPart : Word → Type 0
-FromSPart w = Normal w × NotFirst R w
+-- nothing, or parts of which the first is of either kind
+abbrev pub Parts : Word → Type 0
+Parts w = FromRPart w ⊎ FromSPart w

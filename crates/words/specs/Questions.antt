@@ -6,6 +6,7 @@ use mathlib.Core.List.{List, [], _∷_}
 use Prim.Native.Nat.{ℕ, suc}
 use lib.Dec.{eqb, leb}
 use lib.ListN.{length}
+use Rattle.limits.specs.Limits.{mostLetters, mostOfForm}
 use Rattle.words.specs.Bytes.{pick}
 use Rattle.words.specs.declared.Refusal.{Refusal}
 use Rattle.words.specs.declared.Refusal.the-variants.{CardTooLong, BitMapWrong, FieldCut, SpareByte, EntryTooLarge, DeterminantNotOne, TooManyGenerators, TooManyLetters, EndsWrong, NotALetter, GeneratorTooLong, NormalFormTooLong, BoundTooLarge, OutputTooShort, TableTooShort, MatrixTooLarge}
@@ -62,7 +63,7 @@ firstNo (Refused refusal ∷ questions) = Refused refusal
 
 -- 8: "Have the list's letters together at most 4,096, and the target or single word at most 4,096?" Of one such count.
 abbrev pub question8 : ℕ → Asked
-question8 count = asks (leb count 4096) TooManyLetters
+question8 count = asks (leb count mostLetters) TooManyLetters
 
 abbrev pub isLetter : ℕ → Bool
 isLetter b = pick (eqb b 82) true (eqb b 83)
@@ -78,7 +79,7 @@ question10 bs = asks (leb (length bs) (firstOther bs)) (NotALetter (firstOther b
 
 -- 12: "Has the target's, the word's (for its matrix) or the matrix's normal form at most 80 letters?" Of the length of that form.
 abbrev pub question12 : ℕ → Asked
-question12 letters = asks (leb letters 80) NormalFormTooLong
+question12 letters = asks (leb letters mostOfForm) NormalFormTooLong
 
 -- 14: "Is the lent output long enough".
 abbrev pub question14 : ℕ → ℕ → Asked

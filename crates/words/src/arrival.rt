@@ -34,8 +34,8 @@ fn ending_at(stack: &[u8], len: usize) -> u8
     3
 }
 
-// A letter is put on top, which makes that ending.
-fn put(stack: &mut [u8], len: usize, byte: u8, ending: u8) -> Top
+// A letter is pushed, which makes that ending.
+fn push(stack: &mut [u8], len: usize, byte: u8, ending: u8) -> Top
     requires { ⌜ len < length (now stack) ⌝ }
     ensures { λ r. ⌜ (r .len ≡ len + 1) × (r .ending ≡ ending) × (now (stack .exit) ≡ set (now (stack .entry)) len byte) ⌝ }
 {
@@ -46,8 +46,8 @@ fn put(stack: &mut [u8], len: usize, byte: u8, ending: u8) -> Top
     }
 }
 
-// The top letters are taken off.
-fn take_off(stack: &[u8], len: usize, count: usize) -> Top
+// The top `count` letters are popped. The ending is then read off the stack.
+fn pop(stack: &[u8], len: usize, count: usize) -> Top
     requires { ⌜ count ≤ len ⌝ }
     requires { ⌜ len ≤ length (now stack) ⌝ }
     ensures { λ r. ⌜ (r .len ≡ len - count) × (r .ending ≡ endingOf (below (now (stack .entry)) (len - count))) ⌝ }
@@ -58,7 +58,8 @@ fn take_off(stack: &[u8], len: usize, count: usize) -> Top
     }
 }
 
-// A letter arrives. An R cancels an R, an S cancels SS, and any other letter is put on top.
+// A letter arrives, and meets one of the four endings: nothing, R, S or SS. An R cancels an R, an S cancels SS, and any other letter is
+// pushed. A number has more than four values, so the last arm is `_`: it stands for 3.
 pub(crate) fn arrive(stack: &mut [u8], top: Top, byte: u8) -> Top
     requires { ⌜ SomeHeld (now stack) (top .len) (top .ending) ⌝ }
     requires { ⌜ top .len < length (now stack) ⌝ }
@@ -68,14 +69,17 @@ pub(crate) fn arrive(stack: &mut [u8], top: Top, byte: u8) -> Top
     let ending = top.ending;
     if byte == 82 {
         match ending {
-            1 => take_off(stack, len, 1),
-            _ => put(stack, len, 82, 1),
+            0 => push(stack, len, 82, 1),
+            1 => pop(stack, len, 1),
+            2 => push(stack, len, 82, 1),
+            _ => push(stack, len, 82, 1),
         }
     } else {
         match ending {
-            2 => put(stack, len, 83, 3),
-            3 => take_off(stack, len, 2),
-            _ => put(stack, len, 83, 2),
+            0 => push(stack, len, 83, 2),
+            1 => push(stack, len, 83, 2),
+            2 => push(stack, len, 83, 3),
+            _ => pop(stack, len, 2),
         }
     }
 }
@@ -97,6 +101,7 @@ fn arrive_inverse_letter(stack: &mut [u8], top: Top, byte: u8) -> Top
 pub(crate) fn arrive_all(stack: &mut [u8], word: &[u8]) -> Top
     requires { ⌜ length (now word) ≤ length (now stack) ⌝ }
     ensures { λ r. ⌜ Held (now (stack .exit)) (r .len) (r .ending) (arrived [] (wordOf (now (word .entry)))) ⌝ }
+    ensures { λ r. ⌜ r .len ≤ length (now (word .entry)) ⌝ }
 {
     let mut top = Top { len: 0, ending: 0 };
     let mut i = 0;
@@ -111,6 +116,7 @@ pub(crate) fn arrive_all(stack: &mut [u8], word: &[u8]) -> Top
 pub(crate) fn arrive_inverse(stack: &mut [u8], word: &[u8]) -> Top
     requires { ⌜ 2 * length (now word) ≤ length (now stack) ⌝ }
     ensures { λ r. ⌜ Held (now (stack .exit)) (r .len) (r .ending) (arrived [] (inverse (wordOf (now (word .entry))))) ⌝ }
+    ensures { λ r. ⌜ r .len ≤ 2 * length (now (word .entry)) ⌝ }
 {
     let mut top = Top { len: 0, ending: 0 };
     let mut i = word.len();

@@ -9,6 +9,7 @@ pub mod widening;
 ghost use mathlib.Core.Path.{_≡_};
 ghost use Prim.Native.Nat.{_≤_};
 ghost use lib.ListN.{length, take};
+ghost use Rattle.limits.specs.Limits.{mostLetters, mostOfInverse};
 ghost use Rattle.words.specs.Word.{nf, inverse};
 ghost use Rattle.words.specs.Bytes.{word as wordOf, bytes};
 ghost use Rattle.words.specs.Slices.{overwritten};
@@ -64,7 +65,7 @@ pub enum Tested {
 fn write_out(stack: &[u8], len: usize, out: &mut [u8]) -> Written
     requires { ⌜ len ≤ length (now stack) ⌝ }
     requires { ⌜ len ≤ length (now out) ⌝ }
-    requires { ⌜ len ≤ 8192 ⌝ }
+    requires { ⌜ len ≤ mostOfInverse ⌝ }
     ensures { λ r. ⌜ r ≡ Written.Length (record { 0 = len }) ⌝ }
     ensures { λ _. ⌜ now (out .exit) ≡ overwritten (take len (now (stack .entry))) (now (out .entry)) ⌝ }
 {
@@ -75,17 +76,11 @@ fn write_out(stack: &[u8], len: usize, out: &mut [u8]) -> Written
 // The letters that a short stack holds. Most words are short, and a long stack's zeros cost more than their reduction.
 const FEW: usize = 128;
 
-// The letters that question 8 lets pass.
-const LONGEST: usize = 4096;
-
-// Inversion has two letters arrive for each S.
-const INVERTED: usize = 8192;
-
 // Writes the normal form of `word` to the front of `out`, by a stack that is lent for its letters.
 fn reduce_on(stack: &mut [u8], word: &[u8], out: &mut [u8]) -> Written
     requires { ⌜ length (now word) ≤ length (now stack) ⌝ }
     requires { ⌜ length (now word) ≤ length (now out) ⌝ }
-    requires { ⌜ length (now word) ≤ 4096 ⌝ }
+    requires { ⌜ length (now word) ≤ mostLetters ⌝ }
     ensures { λ r. ⌜ r ≡ Written.Length (record { 0 = length (nf (wordOf (now (word .entry)))) }) ⌝ }
     ensures { λ _. ⌜ now (out .exit) ≡ overwritten (bytes (nf (wordOf (now (word .entry))))) (now (out .entry)) ⌝ }
 {
@@ -104,7 +99,7 @@ pub fn reduce(word: &[u8], out: &mut [u8]) -> Written
                 let mut stack = [0u8; FEW];
                 return reduce_on(&mut stack, word, out);
             }
-            let mut stack = [0u8; LONGEST];
+            let mut stack = [0u8; limits::WORD_LETTERS];
             reduce_on(&mut stack, word, out)
         }
     }
@@ -117,14 +112,15 @@ pub fn invert(word: &[u8], out: &mut [u8]) -> Written
     match questions::of_word(word, 2 * word.len(), out.len()) {
         Asked::Refused(refusal) => Written::Refused(refusal),
         Asked::Passed => {
-            let mut stack = [0u8; INVERTED];
+            let mut stack = [0u8; limits::INVERSE_ROOM];
             let top = arrival::arrive_inverse(&mut stack, word);
             write_out(&stack, top.len, out)
         }
     }
 }
 
-// Says whether `word` is in normal form. Questions 8 and 10 come first, so the test inside is at most 4,096 calls deep.
+// Says whether `word` is in normal form. Questions 8 and 10 come first, so the test inside is at most as many calls deep as question 8
+// lets letters pass.
 pub fn is_normal(word: &[u8]) -> Tested
     ensures { λ r. ⌜ Tests (now (word .entry)) r ⌝ }
 {

@@ -2,15 +2,14 @@
 // an R part is one R and an S part is S or SS."
 ghost use Prim.Native.Nat.{_≤_};
 ghost use lib.ListN.{length, drop};
-ghost use Rattle.words.specs.Word.{Normal};
 ghost use Rattle.words.specs.Bytes.{word as wordOf};
 ghost use Rattle.words.specs.Telling.{Tells};
-ghost use Rattle.words.specs.Parts.{FromRPart, FromSPart};
+ghost use Rattle.words.specs.Parts.{FromRPart, FromSPart, Parts};
 
-// Is the word from `at` on normal?
+// Is the word from `at` on nothing, or parts that follow one another so?
 pub(crate) fn normal_from(word: &[u8], at: usize) -> bool
     requires { ⌜ at ≤ length (now word) ⌝ }
-    ensures { λ r. ⌜ Tells r (Normal (wordOf (drop at (now (word .entry))))) ⌝ }
+    ensures { λ r. ⌜ Tells r (Parts (wordOf (drop at (now (word .entry))))) ⌝ }
 {
     if at == word.len() {
         return true;
@@ -21,7 +20,7 @@ pub(crate) fn normal_from(word: &[u8], at: usize) -> bool
     from_s_part(word, at)
 }
 
-// Is the word from `at` on nothing, or an R part and then nothing or a normal word that begins with an S part?
+// Is the word from `at` on nothing, or an R part that is followed by an S part or nothing, and so on?
 fn from_r_part(word: &[u8], at: usize) -> bool
     requires { ⌜ at ≤ length (now word) ⌝ }
     ensures { λ r. ⌜ Tells r (FromRPart (wordOf (drop at (now (word .entry))))) ⌝ }
@@ -35,7 +34,7 @@ fn from_r_part(word: &[u8], at: usize) -> bool
     false
 }
 
-// Is the word from `at` on nothing, or an S part and then nothing or a normal word that begins with an R part?
+// Is the word from `at` on nothing, or an S part that is followed by an R part or nothing, and so on?
 fn from_s_part(word: &[u8], at: usize) -> bool
     requires { ⌜ at ≤ length (now word) ⌝ }
     ensures { λ r. ⌜ Tells r (FromSPart (wordOf (drop at (now (word .entry))))) ⌝ }

@@ -70,7 +70,7 @@ pub fn first_other(word: &[u8]) -> usize
 pub fn of_letters(word: &[u8]) -> Asked
     ensures { λ r. ⌜ r ≡ ofLetters (now (word .entry)) ⌝ }
 {
-    if 4096 < word.len() {
+    if limits::WORD_LETTERS < word.len() {
         return Asked::Refused(Refusal::TooManyLetters);
     }
     let other = first_other(word);

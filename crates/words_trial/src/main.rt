@@ -71,11 +71,11 @@ fn short(word: &[u8]) {
     is_normal(word);
 }
 
-// The same into slices that are just long enough for 4,096 letters.
+// The same into slices that are just long enough for a word of as many letters as question 8 lets pass.
 fn long(word: &[u8]) {
-    let mut reduced = [46u8; 4096];
+    let mut reduced = [46u8; limits::WORD_LETTERS];
     reduce(word, &mut reduced);
-    let mut inverted = [46u8; 8192];
+    let mut inverted = [46u8; limits::INVERSE_ROOM];
     invert(word, &mut inverted);
     is_normal(word);
 }
@@ -104,21 +104,21 @@ fn put_s(word: &mut [u8], period: usize)
     }
 }
 
-fn words_of_4096_letters() {
-    let all_r = [82u8; 4096];
+fn longest_words() {
+    let all_r = [82u8; limits::WORD_LETTERS];
     long(&all_r);
-    let all_s = [83u8; 4096];
+    let all_s = [83u8; limits::WORD_LETTERS];
     long(&all_s);
-    let mut alternating = [82u8; 4096];
+    let mut alternating = [82u8; limits::WORD_LETTERS];
     put_s(&mut alternating, 2);
     long(&alternating);
-    let mut shrinking = [82u8; 4096];
+    let mut shrinking = [82u8; limits::WORD_LETTERS];
     put_s(&mut shrinking, 3);
     long(&shrinking);
-    let mut vanishing = [82u8; 4096];
+    let mut vanishing = [82u8; limits::WORD_LETTERS];
     put_s(&mut vanishing, 4);
     long(&vanishing);
-    let too_long = [82u8; 4097];
+    let too_long = [82u8; limits::WORD_LETTERS + 1];
     long(&too_long);
 }
 
@@ -127,10 +127,10 @@ fn refused_letters() {
     short(b"RTS");
     short(b"RST");
     short(b"RS?T");
-    let mut bad_last = [82u8; 4096];
-    bad_last[4095] = 88;
+    let mut bad_last = [82u8; limits::WORD_LETTERS];
+    bad_last[limits::WORD_LETTERS - 1] = 88;
     long(&bad_last);
-    let mut bad_and_too_long = [82u8; 4097];
+    let mut bad_and_too_long = [82u8; limits::WORD_LETTERS + 1];
     bad_and_too_long[0] = 88;
     long(&bad_and_too_long);
 }
@@ -160,7 +160,7 @@ fn main() {
     short(b"SR");
     short(b"SSR");
     short(b"RSSRS");
-    words_of_4096_letters();
+    longest_words();
     refused_letters();
     room();
 }

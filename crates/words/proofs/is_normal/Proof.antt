@@ -1,10 +1,11 @@
--- The answer of the test goes by what the questions say. Assumes nothing.
+-- The answer of the test goes by what the questions say, and a word that is a series of parts is normal. Assumes nothing.
 use mathlib.Core.Path.{refl, sym, subst, _∙_}
 use Rattle.words.specs.Bytes.{word as wordOf}
 use Rattle.words.specs.Calls.{TestedRight}
 use Rattle.words.specs.declared.Asked.{Asked}
 use Rattle.words.specs.declared.Tested.the-variants.{Normal as Tested·Normal, NotNormal, Refused as Tested·Refused}
 use Rattle.words.proofs.Telling.{told, told-not}
+use Rattle.words.proofs.Parts.{parts-normal}
 use borrow.Author.Needs.{needs}
 use Rattle.words.proofs.is_normal.Statement.{statement}
 use Rattle.words.proofs.is_normal.Tie as tie
@@ -30,13 +31,13 @@ returns-2 : tie.Need-returns-2
 returns-2 c =
     let w = c .before .before .before .before .before .before .args .word .now in
     subst (λ (q : Asked). TestedRight q (wordOf w) Tested·Normal) (sym (c .before .before .enum-told .given .1) ∙ c .before .before .before .before .of-letters .ensures)
-    (told _ (c .if1 .taken) (c .before .normal-from .ensures))
+    (parts-normal (wordOf w) .0 (told _ (c .if1 .taken) (c .before .normal-from .ensures)))
 
 returns-3 : tie.Need-returns-3
 returns-3 c =
     let w = c .before .before .before .before .before .before .args .word .now in
     subst (λ (q : Asked). TestedRight q (wordOf w) NotNormal) (sym (c .before .before .enum-told .given .1) ∙ c .before .before .before .before .of-letters .ensures)
-    (told-not _ (c .if1 .left) (c .before .normal-from .ensures))
+    (λ normal. told-not _ (c .if1 .left) (c .before .normal-from .ensures) (parts-normal (wordOf w) .1 normal))
 
 pub is-normal-spec : {M : Type 1} → statement M
 is-normal-spec =

@@ -2,6 +2,7 @@
 use mathlib.Core.Path.{sym, _∙_}
 use Prim.Native.Nat.{_≤_}
 use lib.ListN.{length}
+use Rattle.limits.specs.Limits.{mostLetters}
 use Rattle.words.specs.Word.{nf}
 use Rattle.words.proofs.Asking.{of-word-passed}
 use Rattle.words.proofs.Writing.{writes-nothing, writes-word}
@@ -14,7 +15,7 @@ abbrev start : tie.After-enum-told → tie.Start
 start c = c .before .before .before .before .before
 
 -- the word has passed its questions
-asked : (c : tie.After-enum-told) → (length (start c .args .word .now) ≤ 4096) × (length (start c .args .word .now) ≤ length (start c .args .out .now))
+asked : (c : tie.After-enum-told) → (length (start c .args .word .now) ≤ mostLetters) × (length (start c .args .word .now) ≤ length (start c .args .out .now))
 asked c = of-word-passed (start c .args .word .now) _ _ (sym (c .before .before .of-word .ensures) ∙ c .enum-told .given .1)
 
 of-word-requires : tie.Need-of-word-requires

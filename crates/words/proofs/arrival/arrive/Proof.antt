@@ -1,68 +1,108 @@
+-- One arm for each letter and each ending that it meets. Assumes nothing.
 use native.Mathlib.Omega.{arith}
 use borrow.Author.Needs.{needs}
 use mathlib.Core.List.{[]}
-use Rattle.words.proofs.Stack.{r-cancels, r-stays, s-doubles, s-cancels, s-begins, height-r, height-ss}
+use Rattle.words.proofs.Stack.{r-cancels, r-stays, s-doubles, s-cancels, s-begins, ending-3, height-r, height-ss}
 use Rattle.words.proofs.arrival.arrive.Statement.{statement}
 use Rattle.words.proofs.arrival.arrive.Tie as tie
 
-take-off-requires : tie.Need-take-off-requires
-take-off-requires c κs =
-    let a = c .before .before .before .before .args in
-    (height-r (a .stack .now) (a .top .len) (a .top .ending) (c .before .before .before .before .pre .0) (c .before .match .keys1), omega arith)
+push-requires : tie.Need-push-requires
+push-requires c κs = search needs
 
-put-requires : tie.Need-put-requires
-put-requires c κs = search needs
+pop-requires : tie.Need-pop-requires
+pop-requires c κs =
+    let start = c .before .before .before .before in
+    let a = start .args in
+    (height-r (a .stack .now) (a .top .len) (a .top .ending) (start .pre .0) (c .before .match .keys2), omega arith)
 
-put-requires-2 : tie.Need-put-requires-2
-put-requires-2 c κs = search needs
+push-requires-2 : tie.Need-push-requires-2
+push-requires-2 c κs = search needs
 
-take-off-requires-2 : tie.Need-take-off-requires-2
-take-off-requires-2 c κs =
-    let a = c .before .before .before .before .args in
-    (height-ss (a .stack .now) (a .top .len) (a .top .ending) (c .before .before .before .before .pre .0) (c .before .match2 .keys2), omega arith)
+push-requires-3 : tie.Need-push-requires-3
+push-requires-3 c κs = search needs
 
-put-requires-3 : tie.Need-put-requires-3
-put-requires-3 c κs = search needs
+push-requires-4 : tie.Need-push-requires-4
+push-requires-4 c κs = search needs
+
+push-requires-5 : tie.Need-push-requires-5
+push-requires-5 c κs = search needs
+
+push-requires-6 : tie.Need-push-requires-6
+push-requires-6 c κs = search needs
+
+pop-requires-2 : tie.Need-pop-requires-2
+pop-requires-2 c κs =
+    let start = c .before .before .before .before in
+    let a = start .args in
+    let other = c .before .match2 .rest in
+    let ss = ending-3 (a .stack .now) (a .top .len) (a .top .ending) (start .pre .0) (other .0 .0 .1) (other .0 .1) (other .1) in
+    (height-ss (a .stack .now) (a .top .len) (a .top .ending) (start .pre .0) ss, omega arith)
 
 same-length : tie.Need-same-length
 same-length c = search needs
 
 returns : tie.Need-returns
-returns c = r-cancels _ _ _ _ [] _ _ (c .before .before .before .if1 .taken) (c .before .before .match .keys1) (c .take-off .ensures)
+returns c = r-stays _ _ _ _ _ _ _ (c .before .before .before .before .before .if1 .taken) (λ one. omega (arith, c .before .before .before .before .match .keys1)) (omega arith) (c .before .before .push .ensures)
 
 same-length-2 : tie.Need-same-length-2
 same-length-2 c = search needs
 
 returns-2 : tie.Need-returns-2
-returns-2 c = r-stays _ _ _ _ _ _ _ (c .before .before .before .before .before .if1 .taken) (c .before .before .before .before .match .rest .1) (omega arith) (c .before .before .put .ensures)
+returns-2 c = r-cancels _ _ _ _ [] _ _ (c .before .before .before .if1 .taken) (c .before .before .match .keys2) (c .pop .ensures)
 
 same-length-3 : tie.Need-same-length-3
 same-length-3 c = search needs
 
 returns-3 : tie.Need-returns-3
-returns-3 c = s-doubles _ _ _ _ _ _ _ (c .before .before .before .before .before .if1 .left) (c .before .before .before .before .match2 .keys1) (omega arith) (c .before .before .put2 .ensures)
+returns-3 c = r-stays _ _ _ _ _ _ _ (c .before .before .before .before .before .if1 .taken) (λ one. omega (arith, c .before .before .before .before .match .keys3)) (omega arith) (c .before .before .push2 .ensures)
 
 same-length-4 : tie.Need-same-length-4
 same-length-4 c = search needs
 
 returns-4 : tie.Need-returns-4
-returns-4 c = s-cancels _ _ _ _ [] _ _ (c .before .before .before .if1 .left) (c .before .before .match2 .keys2) (c .take-off2 .ensures)
+returns-4 c = r-stays _ _ _ _ _ _ _ (c .before .before .before .before .before .if1 .taken) (c .before .before .before .before .match .rest .0 .1) (omega arith) (c .before .before .push3 .ensures)
 
 same-length-5 : tie.Need-same-length-5
 same-length-5 c = search needs
 
 returns-5 : tie.Need-returns-5
-returns-5 c = s-begins _ _ _ _ _ _ _ (c .before .before .before .before .before .if1 .left) (c .before .before .before .before .match2 .rest .0 .1) (c .before .before .before .before .match2 .rest .1) (omega arith) (c .before .before .put3 .ensures)
+returns-5 c = s-begins _ _ _ _ _ _ _ (c .before .before .before .before .before .if1 .left) (omega (arith, c .before .before .before .before .match2 .keys1)) (omega arith) (c .before .before .push4 .ensures)
+
+same-length-6 : tie.Need-same-length-6
+same-length-6 c = search needs
+
+returns-6 : tie.Need-returns-6
+returns-6 c = s-begins _ _ _ _ _ _ _ (c .before .before .before .before .before .if1 .left) (omega (arith, c .before .before .before .before .match2 .keys2)) (omega arith) (c .before .before .push5 .ensures)
+
+same-length-7 : tie.Need-same-length-7
+same-length-7 c = search needs
+
+returns-7 : tie.Need-returns-7
+returns-7 c = s-doubles _ _ _ _ _ _ _ (c .before .before .before .before .before .if1 .left) (c .before .before .before .before .match2 .keys3) (omega arith) (c .before .before .push6 .ensures)
+
+same-length-8 : tie.Need-same-length-8
+same-length-8 c = search needs
+
+returns-8 : tie.Need-returns-8
+returns-8 c =
+    let start = c .before .before .before .before .before in
+    let a = start .args in
+    let other = c .before .before .match2 .rest in
+    let ss = ending-3 (a .stack .now) (a .top .len) (a .top .ending) (start .pre .0) (other .0 .0 .1) (other .0 .1) (other .1) in
+    s-cancels _ _ _ _ [] _ _ (c .before .before .before .if1 .left) ss (c .pop2 .ensures)
 
 pub arrive-spec : {M : Type 1} → statement M
 arrive-spec =
     tie.close
     (tie.spec
-    take-off-requires
-    put-requires
-    put-requires-2
-    take-off-requires-2
-    put-requires-3
+    push-requires
+    pop-requires
+    push-requires-2
+    push-requires-3
+    push-requires-4
+    push-requires-5
+    push-requires-6
+    pop-requires-2
     same-length
     returns
     same-length-2
@@ -72,4 +112,10 @@ arrive-spec =
     same-length-4
     returns-4
     same-length-5
-    returns-5)
+    returns-5
+    same-length-6
+    returns-6
+    same-length-7
+    returns-7
+    same-length-8
+    returns-8)

@@ -54,7 +54,7 @@ same-length c = c .before .loop .inv .1
 returns : tie.Need-returns Inv-loop μ-loop
 returns c =
     let w = c .before .before .before .before .args .word .now in
-    arriving-ends (ap wordOf (drop-of-length-le w (c .loop-test .left))) (c .before .loop .inv .3)
+    (arriving-ends (ap wordOf (drop-of-length-le w (c .loop-test .left))) (c .before .loop .inv .3), omega arith)
 
 pub arrive-all-spec : {M : Type 1} → statement M
 arrive-all-spec =

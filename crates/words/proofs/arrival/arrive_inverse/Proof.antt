@@ -61,7 +61,7 @@ returns c =
     let l = c .before .loop in
     let w = c .before .before .before .before .args .word .now in
     let none : l .i ≡ 0 = omega arith in
-    arriving-ends (ap (λ (j : ℕ). inverse (wordOf (take j w))) none) (l .inv .3)
+    (arriving-ends (ap (λ (j : ℕ). inverse (wordOf (take j w))) none) (l .inv .3), omega arith)
 
 pub arrive-inverse-spec : {M : Type 1} → statement M
 arrive-inverse-spec =
