@@ -12,13 +12,12 @@ use limits::FORM_ROOM;
 use limits::GENERATORS;
 use limits::WORD_LETTERS;
 use matrices::Matrix;
-use words::Asked;
 use words::Factors;
 use words::Refusal;
 use words::Written;
 ghost use mathlib.Core.Path.{_≡_};
 ghost use mathlib.Core.List.{List};
-ghost use Prim.Native.Nat.{ℕ, _≤_, _<_};
+ghost use Prim.Native.Nat.{ℕ, _≤_};
 ghost use lib.ListN.{length, drop};
 ghost use Rattle.words.specs.Bytes.{word};
 ghost use Rattle.matrices.specs.Entries.{matrix};
@@ -61,14 +60,13 @@ fn answer_letters(
         Flat::Refused(refusal) => Answer::Refused(refusal),
         Flat::Letters(total) => {
             let len = total.0 as usize;
-            let bound = n.0;
             answered(
-                Factors(bound),
+                n,
                 engine::judge(
                     &letters[..len],
                     &ends[..count],
                     target,
-                    Factors(bound),
+                    n,
                     first,
                     second,
                     witness,
