@@ -137,7 +137,8 @@ returns-4 c =
     ap (λ (k : ℕ). take k (w .last .1 .1 .0)) (r .before .before .wide .ensures) ∙ m .1 .1 .0 ∙ ap normalBytes (whole e) in
     let form-ends = all-ends _ (take (w .result .count) (gens f)) (gens f) (length (ends f)) (m .1 .1 .1) (whole e) (sym (normal-ends-length 0 (gens f) ∙ generators-length (bytes f) 0 (ends f))) in
     reduces-list (bytes f) (ends f) (a .out .now) (a .out-ends .now) (start f .pre) (short e) (fits (r .before)) (r .if3 .left) _ _ (w .result .sum .0) (sums e)
-    (pasted-front (c .before .before .before .before .before .before .before .copy-at .ensures) (omega (arith, fits (r .before), ap length forms, sum, normal-bytes-length (gens f))) ∙ ap (λ (new : List ℕ). overwritten new (a .out .now)) forms)
+    (pasted-front (c .before .before .before .before .before .before .before .copy-at .ensures) (omega (arith, fits (r .before), ap length forms, sum, normal-bytes-length (gens f)))
+    ∙ ap (λ (new : List ℕ). overwritten new (a .out .now)) forms)
     ((c .before .before .copy-ends .ensures) ∙ ap (λ (new : List ℕ). overwritten new (a .out-ends .now)) form-ends)
 
 pub reduce-checked-spec : {M : Type 1} → statement M

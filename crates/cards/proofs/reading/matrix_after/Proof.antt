@@ -131,7 +131,8 @@ returns-5 c =
     let at-b = two at-c in
     let at-a = one at-b in
     let a = start at-a .args in
-    all-whole (a .card .now) (a .at) (at-a .before .a .given .0 .0) (first at-a) (at-b .before .b .given .0 .0) (second at-b) (at-c .before .c .given .0 .0) (third at-c) (c .before .d .given .0 .0) (fourth c)
+    all-whole (a .card .now) (a .at) (at-a .before .a .given .0 .0) (first at-a) (at-b .before .b .given .0 .0) (second at-b) (at-c .before .c .given .0 .0) (third at-c)
+    (c .before .d .given .0 .0) (fourth c)
     (search needs) (search needs) (search needs) (search needs)
 
 pub matrix-after-spec : {M : Type 1} → statement M
