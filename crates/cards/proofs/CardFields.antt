@@ -10,6 +10,7 @@ use Prim.Native.Nat.{ℕ, _≤_}
 use native.Mathlib.Omega.{arith}
 use lib.ListN.{length, drop, drop-of-length-le}
 use lib.Seq.{slice}
+use Rattle.words.specs.declared.Factors.{Factors}
 use Rattle.matrices.specs.Entries.{matrix}
 use Rattle.matrices.specs.declared.Matrix.{Matrix as Quadruple}
 use Rattle.fields.specs.Field.{Read, Whole, Cut}
@@ -53,10 +54,12 @@ module _ (card : List ℕ) where
   bound-cut-off (Whole n rest) (at, e, there) c = cc
   bound-cut-off Cut e c = refl
 
-  pub bound-stands : (field : Read ℕ) {r : BoundAt} {n at : ℕ} → BoundIs card field r → r ≡ BoundAt·Whole n at → BoundStands card field n at
+  pub bound-stands : (field : Read ℕ) {r : BoundAt} {n : Factors} {at : ℕ} → BoundIs card field r → r ≡ BoundAt·Whole n at
+      → BoundStands card field (n .0) at
   bound-stands (Whole m rest) {r} {n} {at} (to, e, there) w =
       let place : at ≡ to = cc in
-      record { whole = rw place (cc (there .1)); within = omega (arith, there .0) }
+      let same : n ≡ record { 0 = m } = cc in
+      record { whole = rw (place, same) (ap (Whole m) (sym (there .1))); within = omega (arith, there .0) }
   bound-stands Cut e w = let z : _≡_ {A = ℕ} 0 1 = cc in absurd (omega arith)
 
   pub target-cut-off : (field : Read Target) {r : TargetAt} → TargetIs card field r → r ≡ TargetAt·Cut → field ≡ Cut

@@ -6,7 +6,9 @@ use native.Mathlib.Omega.{arith}
 use lib.Dec.{leb}
 use lib.ListN.{length, take}
 use borrow.Author.Tests.{leb-true}
+use Rattle.limits.specs.Limits.{mostGenerators, mostLetters}
 use Rattle.words.specs.Questions.{firstNo, question8, question10}
+use Rattle.words.specs.declared.Letters.{Letters}
 use Rattle.words.specs.declared.Refusal.{Refusal}
 use Rattle.words.specs.declared.Refusal.the-variants.{TooManyGenerators, TooManyLetters}
 use Rattle.words.specs.declared.Asked.{Asked}
@@ -21,10 +23,10 @@ use Rattle.cards.specs.declared.flattening.Flat.the-variants.{Letters as
 use Rattle.cards.proofs.ListBytes.{list-ends-length}
 use Rattle.cards.proofs.GeneratorFields.{listed-count}
 
--- The list's letters and its ends stand in the fronts of two slices, for which 4,096 letters and 64 ends are room enough.
+-- The list's letters and its ends stand in the fronts of two slices, for which there is room enough where questions 7 and 8 are answered yes.
 pub record InFronts (list : List (List ℕ)) (count total : ℕ) (letters ends : List ℕ) : Type 0 where
-  pub few : count ≤ 64
-  pub short : total ≤ 4096
+  pub few : count ≤ mostGenerators
+  pub short : total ≤ mostLetters
   pub letters-front : take total letters ≡ listBytes list
   pub ends-front : take count ends ≡ listEnds 0 list
 
@@ -45,27 +47,28 @@ module _ (list : List (List ℕ)) (before after beforeEnds afterEnds : List ℕ)
       go Passed right = let other = right .0 in let z : _≡_ {A = ℕ} 0 1 = cc in absurd (omega arith)
       go (Refused other) right = let same = right .0 in cc
 
-  flat-fronts : {count total : ℕ} → length list ≡ count → r ≡ Flat·Letters total → InFronts list count total after afterEnds
+  flat-fronts : {count : ℕ} {total : Letters} → length list ≡ count → r ≡ Flat·Letters total → InFronts list count (total .0) after afterEnds
   flat-fronts {count} {total} number e = go asked refl h
     where
-      go : (a : Asked) → asked ≡ a → FlatRight a list r before after beforeEnds afterEnds → InFronts list count total after afterEnds
+      go : (a : Asked) → asked ≡ a → FlatRight a list r before after beforeEnds afterEnds → InFronts list count (total .0) after afterEnds
       go (Refused refusal) passed right = let other = right .0 in let z : _≡_ {A = ℕ} 0 1 = cc in absurd (omega arith)
       go Passed passed (answer, letters, ends) =
-          let all : total ≡ length (listBytes list) = let same : Flat·Letters total ≡ Flat·Letters (length (listBytes list)) = sym e ∙ answer in cc in
+          let same : total ≡ record { 0 = length (listBytes list) } = cc in
+          let all : total .0 ≡ length (listBytes list) = ap (λ (l : Letters). l .0) same in
           let seventh = first-no-head (question7 (length list)) (question8 (length (listBytes list)) ∷ []) passed in
           let eighth = sym (first-no-one (question8 (length (listBytes list)))) ∙ first-no-tail (question7 (length list)) (question8 (length (listBytes list)) ∷ []) passed in
           record {
-            few = omega (arith, number, leb-true (length list) 64 (asks-passed (leb (length list) 64) TooManyGenerators seventh));
-            short = omega (arith, all, leb-true (length (listBytes list)) 4096 (asks-passed (leb (length (listBytes list)) 4096) TooManyLetters eighth));
-            letters-front = ap (take total) letters ∙ take-overwritten (listBytes list) before total all;
+            few = omega (arith, number, leb-true (length list) mostGenerators (asks-passed (leb (length list) mostGenerators) TooManyGenerators seventh));
+            short = omega (arith, all, leb-true (length (listBytes list)) mostLetters (asks-passed (leb (length (listBytes list)) mostLetters) TooManyLetters eighth));
+            letters-front = ap (take (total .0)) letters ∙ take-overwritten (listBytes list) before (total .0) all;
             ends-front = ap (take count) ends ∙ take-overwritten (listEnds 0 list) beforeEnds count (sym (list-ends-length 0 list ∙ number));
           }
 
 -- whichever list fills the card from a place on
 module _ (card : List ℕ) (start count : ℕ) (before after beforeEnds afterEnds : List ℕ) (r : Flat)
-    (h : (list : List (List ℕ)) → Listed card start count list → Flattens list r before after beforeEnds afterEnds) {total : ℕ} (e : r ≡ Flat·Letters total) where
-  pub listed-fronts : (list : List (List ℕ)) → Listed card start count list → InFronts list count total after afterEnds
+    (h : (list : List (List ℕ)) → Listed card start count list → Flattens list r before after beforeEnds afterEnds) {total : Letters} (e : r ≡ Flat·Letters total) where
+  pub listed-fronts : (list : List (List ℕ)) → Listed card start count list → InFronts list count (total .0) after afterEnds
   listed-fronts list listed = flat-fronts list before after beforeEnds afterEnds r (h list listed) (listed-count card start count listed) e
 
-  pub fronts-fit : SomeListed card start count → length after ≡ 4096 → length afterEnds ≡ 64 → (total ≤ length after) × (count ≤ length afterEnds)
+  pub fronts-fit : SomeListed card start count → length after ≡ mostLetters → length afterEnds ≡ mostGenerators → (total .0 ≤ length after) × (count ≤ length afterEnds)
   fronts-fit (list, listed) room room-ends = let f = listed-fronts list listed in (omega (arith, f .short), omega (arith, f .few))

@@ -8,6 +8,7 @@ use native.Mathlib.Omega.{arith}
 use lib.Dec.{leb}
 use lib.ListN.{length, length-append}
 use borrow.Author.Tests.{le-leb, lt-leb}
+use Rattle.limits.specs.Limits.{mostLetters}
 use Rattle.words.specs.Questions.{firstNo, firstOther, question8, question10}
 use Rattle.words.specs.declared.Refusal.the-variants.{TooManyLetters, NotALetter}
 use Rattle.words.specs.declared.Asked.{Asked}
@@ -33,8 +34,8 @@ letters-behind bytes target h =
           ∙ sym (asks-no (leb (length bytes) (firstOther bytes)) (NotALetter (firstOther bytes)) (lt-leb (length bytes) (firstOther bytes) (lt-of-not-le k)))
     ]
 
-pub list-before-letters : (bytes ends target : List ℕ) → length target ≤ 4096 → AllLetters target → ofList bytes ends target ≡ ofList bytes ends []
+pub list-before-letters : (bytes ends target : List ℕ) → length target ≤ mostLetters → AllLetters target → ofList bytes ends target ≡ ofList bytes ends []
 list-before-letters bytes ends target short h =
     let first : Asked → Asked → Asked = λ eighth tenth. firstNo (question7 (length ends) ∷ question8 (length bytes) ∷ eighth ∷ question9 ends (length bytes) ∷ tenth ∷ []) in
-    ap (λ (a : Asked). first a (question10 (bytes ++ target))) (asks-yes (leb (length target) 4096) TooManyLetters (le-leb (length target) 4096 short))
+    ap (λ (a : Asked). first a (question10 (bytes ++ target))) (asks-yes (leb (length target) mostLetters) TooManyLetters (le-leb (length target) mostLetters short))
     ∙ ap (first Passed) (letters-behind bytes target h ∙ ap question10 (sym (append-nil bytes)))

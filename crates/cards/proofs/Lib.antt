@@ -8,7 +8,7 @@ pub mod ListBytes
 pub mod MadeRead
 mod GeneratorFields
 mod GeneratorSpans
-mod PuttingList
+mod PushingList
 mod FlatAnswers
 mod FlatFronts
 mod LettersBehind

@@ -11,7 +11,7 @@ use Rattle.unimodular.specs.Matrix.{Matrix}
 use Rattle.words.specs.declared.Asked.the-variants.{Passed}
 use Rattle.fields.specs.Field.{Read, Whole, next, signedField, lettersField, spelled}
 use Rattle.fields.proofs.Reading.{number-read, letters-read, signed-read}
-use Rattle.cards.specs.Card.{Target, Letters, Entries, bit, boundField, matrixField, targetField, generatorFields, listField, afterTarget, afterBound, cardOf}
+use Rattle.cards.specs.Card.{Target, Letters, Entries, bit, defaultBound, boundField, matrixField, targetField, generatorFields, listField, afterTarget, afterBound, cardOf}
 use Rattle.cards.specs.Made.{Fields, wordBytes, wordsBytes, signedBytes, boundBytes, targetBytes, listFieldBytes, boundBit, targetBit, listBit, made, orElse, meant, InSigned, AllShort, BoundFits, TargetFits, ListFits, FieldsFit}
 use Rattle.cards.specs.Questions.{question2}
 
@@ -61,7 +61,7 @@ tells (some n) (some (Entries m)) (some list) = (refl, refl, refl, refl, λ bs. 
 
 -- ---- each field, in front of a rest
 
-bound-read : (map : ℕ) (b : Option ℕ) (rest : List ℕ) → BoundFits b → bit 1 map ≡ is-there b → boundField map (boundBytes b ++ rest) ≡ Whole (orElse b 1000) rest
+bound-read : (map : ℕ) (b : Option ℕ) (rest : List ℕ) → BoundFits b → bit 1 map ≡ is-there b → boundField map (boundBytes b ++ rest) ≡ Whole (orElse b defaultBound) rest
 bound-read map none rest fits e = rw e
 bound-read map (some n) rest fits e = rw e (number-read 2 n rest fits)
 
@@ -118,6 +118,6 @@ made-read f fits =
     let map : ℕ = bit-map (f .bound) (f .target) (f .list) in
     let (bound-bit, letters-bit, entries-bit, list-bit, passes) = tells (f .bound) (f .target) (f .list) in
     read-on (afterBound map) (bound-read map (f .bound) (targetBytes (f .target) ++ listFieldBytes (f .list)) (fits .0) bound-bit)
-    ∙ read-on (afterTarget map (orElse (f .bound) 1000)) (target-read map (f .target) (listFieldBytes (f .list)) (fits .1) letters-bit entries-bit)
-    ∙ read-on (λ (list : List (List ℕ)) (rest : List ℕ). Whole (record { bound = orElse (f .bound) 1000; target = orElse (f .target) (Letters []); list = list }) rest)
+    ∙ read-on (afterTarget map (orElse (f .bound) defaultBound)) (target-read map (f .target) (listFieldBytes (f .list)) (fits .1) letters-bit entries-bit)
+    ∙ read-on (λ (list : List (List ℕ)) (rest : List ℕ). Whole (record { bound = orElse (f .bound) defaultBound; target = orElse (f .target) (Letters []); list = list }) rest)
     (list-read map (f .list) (fits .2) list-bit)

@@ -7,6 +7,7 @@ use native.Mathlib.Omega.{arith}
 use lib.Dec.{leb}
 use lib.ListN.{length, drop, getD}
 use borrow.Author.Tests.{le-leb, lt-leb}
+use Rattle.limits.specs.Limits.{mostCardBytes}
 use Rattle.words.specs.Bytes.{pick}
 use Rattle.words.specs.Questions.{asks, firstNo}
 use Rattle.words.specs.declared.Refusal.the-variants.{CardTooLong, BitMapWrong}
@@ -15,12 +16,12 @@ use Rattle.words.proofs.Asking.{first-no-one, yes-first, no-first}
 use Rattle.cards.specs.Card.{bit, cardOf, fields}
 use Rattle.cards.specs.Questions.{question2, ofMap}
 
-pub too-long : (card : List ℕ) → 8326 < length card → ofMap card ≡ Refused CardTooLong
-too-long card h = no-first (leb (length card) 8326) CardTooLong (question2 card ∷ []) (lt-leb (length card) 8326 h)
+pub too-long : (card : List ℕ) → mostCardBytes < length card → ofMap card ≡ Refused CardTooLong
+too-long card h = no-first (leb (length card) mostCardBytes) CardTooLong (question2 card ∷ []) (lt-leb (length card) mostCardBytes h)
 
-short : (card : List ℕ) → length card ≤ 8326 → ofMap card ≡ question2 card
+short : (card : List ℕ) → length card ≤ mostCardBytes → ofMap card ≡ question2 card
 short card h =
-    yes-first (leb (length card) 8326) CardTooLong (question2 card ∷ []) (le-leb (length card) 8326 h) ∙ first-no-one (question2 card)
+    yes-first (leb (length card) mostCardBytes) CardTooLong (question2 card ∷ []) (le-leb (length card) mostCardBytes h) ∙ first-no-one (question2 card)
 
 pub no-map : (card : List ℕ) → length card ≡ 0 → ofMap card ≡ Refused BitMapWrong
 no-map [] h = refl
@@ -37,21 +38,21 @@ one-target false f e = ap (λ (b : Bool). pick b false true) e
 
 -- ---- a card with a first byte
 
-pub map-too-large : (card : List ℕ) → 0 < length card → length card ≤ 8326 → 15 < getD card 0 0 → ofMap card ≡ Refused BitMapWrong
+pub map-too-large : (card : List ℕ) → 0 < length card → length card ≤ mostCardBytes → 15 < getD card 0 0 → ofMap card ≡ Refused BitMapWrong
 map-too-large [] some h large = absurd (omega arith)
 map-too-large (map ∷ bs) some h large =
     short (map ∷ bs) h ∙ no-first (leb map 15) BitMapWrong (asks (oneTarget map) BitMapWrong ∷ []) (lt-leb map 15 large)
 
-small : (map : ℕ) (bs : List ℕ) → length (map ∷ bs) ≤ 8326 → map ≤ 15 → ofMap (map ∷ bs) ≡ firstNo (asks (oneTarget map) BitMapWrong ∷ [])
+small : (map : ℕ) (bs : List ℕ) → length (map ∷ bs) ≤ mostCardBytes → map ≤ 15 → ofMap (map ∷ bs) ≡ firstNo (asks (oneTarget map) BitMapWrong ∷ [])
 small map bs h low = short (map ∷ bs) h ∙ yes-first (leb map 15) BitMapWrong (asks (oneTarget map) BitMapWrong ∷ []) (le-leb map 15 low)
 
-pub two-targets : (card : List ℕ) → 0 < length card → length card ≤ 8326 → getD card 0 0 ≤ 15
+pub two-targets : (card : List ℕ) → 0 < length card → length card ≤ mostCardBytes → getD card 0 0 ≤ 15
     → pick (bit 2 (getD card 0 0)) (bit 4 (getD card 0 0)) false ≡ true → ofMap card ≡ Refused BitMapWrong
 two-targets [] some h low both = absurd (omega arith)
 two-targets (map ∷ bs) some h low both =
     small map bs h low ∙ no-first (oneTarget map) BitMapWrong [] (one-target (bit 2 map) (bit 4 map) both)
 
-pub map-right : (card : List ℕ) → 0 < length card → length card ≤ 8326 → getD card 0 0 ≤ 15
+pub map-right : (card : List ℕ) → 0 < length card → length card ≤ mostCardBytes → getD card 0 0 ≤ 15
     → pick (bit 2 (getD card 0 0)) (bit 4 (getD card 0 0)) false ≡ false → ofMap card ≡ Passed
 map-right [] some h low one = absurd (omega arith)
 map-right (map ∷ bs) some h low one =

@@ -3,6 +3,7 @@ use mathlib.Core.Path.{_≡_, refl, sym, ap, subst, _∙_}
 use mathlib.Core.List.{List, []}
 use Prim.Native.Nat.{ℕ, _≤_}
 use lib.ListN.{length, take}
+use Rattle.limits.specs.Limits.{mostOfForm}
 use Rattle.words.specs.Word.{Word}
 use Rattle.words.specs.Bytes.{word}
 use Rattle.words.specs.declared.Letters.{Letters}
@@ -20,8 +21,8 @@ use Rattle.engine.specs.Calls.{Lent}
 use Rattle.answers.specs.declared.Answer.{Answer}
 use Rattle.answers.specs.declared.Answer.the-variants.{Refused as Answer·Refused}
 use Rattle.cards.specs.Calls.{AnswersProduct, AnswersMatrix}
-use Rattle.cards.specs.Reading.{ofLongForm}
-use Rattle.cards.proofs.ProductAnswers.{long-form-refused, word-answered}
+use Rattle.cards.proofs.LongForms.{t41, t41-short, t41-letters, t41-too-long}
+use Rattle.cards.proofs.ProductAnswers.{long-answered, word-answered}
 
 module _ (m : Matrix) (before after : List ℕ) (written : Written) (h : TurnsMatrix m before written after) (n : ℕ) (list : List (List ℕ)) where
   -- where questions 5 and 6 pass
@@ -37,12 +38,13 @@ module _ (m : Matrix) (before after : List ℕ) (written : Written) (h : TurnsMa
       (λ w p. word-answered n list w (turned-short m before after written h e w p) lent left
       (subst (λ (letters : List ℕ). AnswersProduct n letters (word letters) list r lent left) (turned-bytes m before after written h e w p) answers))
 
-  module _ (room : 80 ≤ length before) (lent : Lent) where
-    pub form-too-long : written ≡ Written·Refused NormalFormTooLong → {refusal : Refusal} → ofLongForm list ≡ Refused refusal
-        → AnswersMatrix (ofEntries m) n m list (Answer·Refused refusal) lent lent
-    form-too-long e asked =
+  module _ (room : mostOfForm ≤ length before) (lent : Lent) where
+    pub form-too-long : written ≡ Written·Refused NormalFormTooLong → {r : Answer} (left : Lent) → AnswersProduct n t41 (word t41) list r lent left
+        → AnswersMatrix (ofEntries m) n m list r lent left
+    form-too-long e left answers =
         let passes = turned-too-long m before after written h e in
-        passed lent lent passes (λ w p. long-form-refused n list w (p .normal) (turned-refused m before after written h e passes room w p .0) lent asked)
+        passed lent left passes
+        (λ w p. long-answered n list w (p .normal) (turned-refused m before after written h e passes room w p .0) t41 t41-short t41-letters t41-too-long lent left answers)
 
     -- any other refusal is one by question 5 or 6
     pub entries-refused : {refusal : Refusal} → written ≡ Written·Refused refusal → (refusal ≡ NormalFormTooLong → ⊥)

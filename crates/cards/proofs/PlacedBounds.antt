@@ -18,7 +18,7 @@ module _ (card : List ℕ) where
   cut Cut e = refl
 
   whole : (field : Read ℕ) {n : ℕ} → ((m : ℕ) (rest : List ℕ) → field ≡ Whole m rest → (rest ≡ drop 3 card) × (3 ≤ length card))
-      → Short·Whole n ≡ shortOf field → BoundIs card field (BoundAt·Whole n 3)
+      → Short·Whole n ≡ shortOf field → BoundIs card field (BoundAt·Whole (record { 0 = n }) 3)
   whole (Whole m rest) {n} after e = (3, cc, (after m rest refl .1, sym (after m rest refl .0)))
   whole Cut after e = let z : _≡_ {A = ℕ} 0 1 = cc in absurd (omega arith)
 
@@ -26,5 +26,5 @@ module _ (card : List ℕ) where
   bound-cut e = cut (numberField 2 (drop 1 card)) e
 
   pub bound-whole : {n : ℕ} → Short·Whole n ≡ shortOf (numberField 2 (drop 1 card))
-      → BoundIs card (numberField 2 (drop 1 card)) (BoundAt·Whole n 3)
+      → BoundIs card (numberField 2 (drop 1 card)) (BoundAt·Whole (record { 0 = n }) 3)
   bound-whole e = whole (numberField 2 (drop 1 card)) (λ m rest h. after-number 2 card 1 (omega arith) h) e

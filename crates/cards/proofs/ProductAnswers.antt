@@ -1,18 +1,19 @@
 -- The answer to a bound, a target and a list: where it is refused, and a target that is a normal form. Assumes nothing.
-use mathlib.Core.Path.{_≡_, refl, sym, ap, subst, _∙_}
+use mathlib.Core.Path.{_≡_, refl, sym, ap, subst}
 use mathlib.Core.List.{List, [], _∷_}
 use Prim.Native.Nat.{ℕ, _≤_, _<_}
 use native.Mathlib.Omega.{arith}
 use lib.Dec.{leb}
 use lib.ListN.{length}
 use borrow.Author.Tests.{lt-leb}
+use Rattle.limits.specs.Limits.{mostLetters, mostOfForm}
 use Rattle.words.specs.Word.{Word, Normal, nf}
 use Rattle.words.specs.Bytes.{word, bytes}
 use Rattle.words.specs.Questions.{firstNo, question14}
 use Rattle.words.specs.declared.Refusal.{Refusal}
 use Rattle.words.specs.declared.Refusal.the-variants.{NormalFormTooLong}
 use Rattle.words.specs.declared.Asked.{Asked}
-use Rattle.words.specs.declared.Asked.the-variants.{Refused}
+use Rattle.words.specs.declared.Asked.the-variants.{Passed, Refused}
 use Rattle.words.proofs.Asking.{no-first, refused-first}
 use Rattle.words.proofs.Bytes.{word-bytes, length-bytes}
 use Rattle.words.proofs.FirstOther.{first-other-bytes}
@@ -20,6 +21,7 @@ use Rattle.words.proofs.NormalForm.{nf-of-normal}
 use Rattle.products.specs.Product.{generators}
 use Rattle.lists.specs.Questions.{ofList, question11}
 use Rattle.lists.specs.NormalList.{total}
+use Rattle.lists.specs.Reducing.{AllLetters}
 use Rattle.sizes.specs.Questions.{side, question13, question15, ofSizes}
 use Rattle.engine.specs.Questions.{ofProduct}
 use Rattle.engine.specs.Calls.{Lent, Judged}
@@ -28,8 +30,12 @@ use Rattle.answers.specs.declared.Answer.{Answer}
 use Rattle.answers.specs.declared.Answer.the-variants.{Refused as Answer·Refused}
 use Rattle.cards.specs.Card.{listBytes, listEnds}
 use Rattle.cards.specs.Calls.{AnswersProduct}
-use Rattle.cards.specs.Reading.{ofLongForm}
 use Rattle.cards.proofs.LettersBehind.{list-before-letters}
+
+never-passed : (a b : Asked) (refusal : Refusal) → firstNo (a ∷ b ∷ Refused refusal ∷ []) ≡ Passed → ⊥
+never-passed Passed Passed refusal e = let z : _≡_ {A = ℕ} 0 1 = cc in omega arith
+never-passed Passed (Refused other) refusal e = let z : _≡_ {A = ℕ} 0 1 = cc in omega arith
+never-passed (Refused other) b refusal e = let z : _≡_ {A = ℕ} 0 1 = cc in omega arith
 
 module _ (n : ℕ) (list : List (List ℕ)) where
   abbrev gens : List Word
@@ -59,18 +65,36 @@ module _ (n : ℕ) (list : List (List ℕ)) where
       refused letters target lent (refused-first (ofList (listBytes list) (listEnds 0 list) letters) (question11 gens ∷ sizes target lent ∷ []) e)
 
   module _ (w : Word) where
-    -- a normal form of more than 80 letters, which no letters are asked of
-    pub long-form-refused : Normal w → 80 < length w → (lent : Lent) {refusal : Refusal} → ofLongForm list ≡ Refused refusal
-        → AnswersProduct n [] w list (Answer·Refused refusal) lent lent
-    long-form-refused normal long lent e =
-        let t = length (nf w) in
-        let rest : List Asked = question13 n ∷ question14 n (length (lent .witness)) ∷ question15 (q w) (length (lent .first)) (length (lent .second)) ∷ [] in
-        let twelfth : sizes w lent ≡ Refused NormalFormTooLong =
-        no-first (leb t 80) NormalFormTooLong rest (lt-leb t 80 (omega (arith, long, ap length (nf-of-normal w normal)))) in
-        refused [] w lent (ap (λ (a : Asked). firstNo (ofList (listBytes list) (listEnds 0 list) [] ∷ question11 gens ∷ a ∷ [])) twelfth ∙ e)
+    -- a normal form that is too long is answered as letters are that are too long too
+    pub long-answered : Normal w → mostOfForm < length w → (letters : List ℕ) → length letters ≤ mostLetters → AllLetters letters → mostOfForm < length (nf (word letters))
+        → {r : Answer} (before after : Lent) → AnswersProduct n letters (word letters) list r before after → AnswersProduct n [] w list r before after
+    long-answered normal long letters short all too-long before after (v, e, judged) =
+        let first = list-before-letters (listBytes list) (listEnds 0 list) letters short all in
+        let its : asked letters (word letters) before ≡ listed =
+        (λ i. firstNo (first i ∷ question11 gens ∷ twelfth (word letters) too-long before i ∷ [])) in
+        let same : asked [] w before ≡ listed =
+        ap (λ (a : Asked). firstNo (ofList (listBytes list) (listEnds 0 list) [] ∷ question11 gens ∷ a ∷ []))
+        (twelfth w (omega (arith, long, ap length (nf-of-normal w normal))) before) in
+        let refuses = alike listed (never-passed (ofList (listBytes list) (listEnds 0 list) []) (question11 gens) NormalFormTooLong)
+        (subst (λ (a : Asked). Judged a (q (word letters)) gens (word letters) n v before after) its judged) in
+        (v, e, subst (λ (a : Asked). Judged a (q w) gens w n v before after) (sym same) refuses)
+      where
+        listed : Asked
+        listed = firstNo (ofList (listBytes list) (listEnds 0 list) [] ∷ question11 gens ∷ Refused NormalFormTooLong ∷ [])
+
+        twelfth : (target : Word) → mostOfForm < length (nf target) → (lent : Lent) → sizes target lent ≡ Refused NormalFormTooLong
+        twelfth target h lent =
+            no-first (leb (length (nf target)) mostOfForm) NormalFormTooLong
+            (question13 n ∷ question14 n (length (lent .witness)) ∷ question15 (q target) (length (lent .first)) (length (lent .second)) ∷ [])
+            (lt-leb (length (nf target)) mostOfForm h)
+
+        -- a refusal does not speak of the target
+        alike : (a : Asked) → (a ≡ Passed → ⊥) → Judged a (q (word letters)) gens (word letters) n v before after → Judged a (q w) gens w n v before after
+        alike Passed h j = absurd (h refl)
+        alike (Refused refusal) h j = j
 
     -- the letters of a short word pass their questions
-    pub word-answered : length w ≤ 80 → {r : Answer} (before after : Lent) → AnswersProduct n (bytes w) (word (bytes w)) list r before after
+    pub word-answered : length w ≤ mostOfForm → {r : Answer} (before after : Lent) → AnswersProduct n (bytes w) (word (bytes w)) list r before after
         → AnswersProduct n [] w list r before after
     word-answered short {r} before after answers =
         let (v, e, judged) = subst (λ (x : Word). AnswersProduct n (bytes w) x list r before after) (word-bytes w) answers in

@@ -25,8 +25,11 @@ abbrev pub bit : ℕ → ℕ → Bool
 bit weight map = eqb (map / weight % 2) 1
 
 -- 01: "Bit 0: n, 16 bits." "Without a field, n is 1,000".
+abbrev pub defaultBound : ℕ
+defaultBound = 1000
+
 abbrev pub boundField : ℕ → List ℕ → Read ℕ
-boundField map bs = pick (bit 1 map) (numberField 2 bs) (Whole 1000 bs)
+boundField map bs = pick (bit 1 map) (numberField 2 bs) (Whole defaultBound bs)
 
 -- 01: "Bit 2: the target as a, b, c, d, each a signed 64-bit number in two's complement."
 abbrev pub matrixField : List ℕ → Read Matrix

@@ -5,7 +5,7 @@ use Prim.Native.Nat.{ℕ, _+_, _<_, _≤_}
 use lib.ListN.{length}
 use lib.IntN.{ℤ, pos, negsuc}
 use Rattle.fields.specs.Field.{spelled, complement}
-use Rattle.cards.specs.Card.{Target, Letters, Entries, Card}
+use Rattle.cards.specs.Card.{Target, Letters, Entries, Card, defaultBound}
 
 pub record Fields : Type 0 where
   pub bound : Option ℕ
@@ -55,14 +55,14 @@ made f =
     (boundBit (f .bound) + (targetBit (f .target) + listBit (f .list)))
     ∷ (boundBytes (f .bound) ++ (targetBytes (f .target) ++ listFieldBytes (f .list)))
 
--- ---- what the card then means: without a field, n is 1,000, the target is empty, the list is empty
+-- ---- what the card then means, without a field by its default
 
 abbrev pub orElse : {A : Type 0} → Option A → A → A
 orElse none default = default
 orElse (some a) default = a
 
 abbrev pub meant : Fields → Card
-meant f = record { bound = orElse (f .bound) 1000; target = orElse (f .target) (Letters []); list = orElse (f .list) [] }
+meant f = record { bound = orElse (f .bound) defaultBound; target = orElse (f .target) (Letters []); list = orElse (f .list) [] }
 
 -- ---- fields whose numbers fit their bytes
 

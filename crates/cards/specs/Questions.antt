@@ -4,6 +4,7 @@ use mathlib.Core.List.{List, [], _∷_}
 use Prim.Native.Nat.{ℕ}
 use lib.Dec.{leb}
 use lib.ListN.{length}
+use Rattle.limits.specs.Limits.{mostCardBytes}
 use Rattle.words.specs.Bytes.{pick}
 use Rattle.words.specs.Questions.{asks, firstNo}
 use Rattle.words.specs.declared.Refusal.the-variants.{CardTooLong, BitMapWrong}
@@ -13,7 +14,7 @@ use Rattle.cards.specs.Card.{bit}
 
 -- 1: "Has the card at most 8,326 bytes?"
 abbrev pub question1 : ℕ → Asked
-question1 count = asks (leb count 8326) CardTooLong
+question1 count = asks (leb count mostCardBytes) CardTooLong
 
 -- 2: "Is there a first byte, with bits 4 to 7 clear and not both bits 1 and 2?"
 abbrev pub question2 : List ℕ → Asked

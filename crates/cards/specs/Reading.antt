@@ -6,11 +6,9 @@ use lib.Seq.{slice}
 use lib.ListN.{length, drop}
 use Rattle.words.specs.Questions.{firstNo, question8}
 use Rattle.words.specs.Slices.{overwritten}
-use Rattle.words.specs.declared.Refusal.the-variants.{NormalFormTooLong}
 use Rattle.words.specs.declared.Asked.{Asked}
 use Rattle.words.specs.declared.Asked.the-variants.{Passed, Refused}
-use Rattle.lists.specs.Questions.{question7, question11, ofList}
-use Rattle.products.specs.Product.{generators}
+use Rattle.lists.specs.Questions.{question7}
 use Rattle.unimodular.specs.Matrix.{Matrix}
 use Rattle.matrices.specs.Entries.{matrix}
 use Rattle.matrices.specs.declared.Matrix.{Matrix as Quadruple}
@@ -36,7 +34,7 @@ abbrev pub Stands : List ℕ → ℕ → List ℕ → Type 0
 Stands card at rest = (at ≤ length card) × (drop at card ≡ rest)
 
 abbrev pub BoundIs : List ℕ → Read ℕ → BoundAt → Type 0
-BoundIs card (Whole n rest) r = (at : ℕ) × (r ≡ BoundAt·Whole n at) × Stands card at rest
+BoundIs card (Whole n rest) r = (at : ℕ) × (r ≡ BoundAt·Whole (record { 0 = n }) at) × Stands card at rest
 BoundIs card Cut r = r ≡ BoundAt·Cut
 
 -- a target by where its letters are, or by its entries
@@ -76,15 +74,9 @@ SomeListed card start count = (list : List (List ℕ)) × Listed card start coun
 -- The list's letters, one generator behind the other, and their ends, each in the front of a slice, after questions 7 and 8.
 abbrev pub FlatRight : Asked → List (List ℕ) → Flat → List ℕ → List ℕ → List ℕ → List ℕ → Type 0
 FlatRight Passed list r before after beforeEnds afterEnds =
-    (r ≡ Flat·Letters (length (listBytes list))) × (after ≡ overwritten (listBytes list) before) × (afterEnds ≡ overwritten (listEnds 0 list) beforeEnds)
+    (r ≡ Flat·Letters (record { 0 = length (listBytes list) })) × (after ≡ overwritten (listBytes list) before) × (afterEnds ≡ overwritten (listEnds 0 list) beforeEnds)
 FlatRight (Refused refusal) list r before after beforeEnds afterEnds = (r ≡ Flat·Refused refusal) × (after ≡ before) × (afterEnds ≡ beforeEnds)
 
 abbrev pub Flattens : List (List ℕ) → Flat → List ℕ → List ℕ → List ℕ → List ℕ → Type 0
 Flattens list r before after beforeEnds afterEnds =
     FlatRight (firstNo (question7 (length list) ∷ question8 (length (listBytes list)) ∷ [])) list r before after beforeEnds afterEnds
-
--- what a list is asked before question 12 is answered no, for a matrix whose normal form is too long
-abbrev pub ofLongForm : List (List ℕ) → Asked
-ofLongForm list =
-    firstNo
-    (ofList (listBytes list) (listEnds 0 list) [] ∷ question11 (generators (listBytes list) (listEnds 0 list)) ∷ Refused NormalFormTooLong ∷ [])

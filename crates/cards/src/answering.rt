@@ -8,30 +8,23 @@ use crate::reading::ListAt;
 use crate::reading::TargetAt;
 use answers::Answer;
 use engine::Verdict;
+use limits::FORM_ROOM;
+use limits::GENERATORS;
+use limits::WORD_LETTERS;
 use matrices::Matrix;
-use words::Asked;
 use words::Factors;
 use words::Refusal;
 use words::Written;
 ghost use mathlib.Core.Path.{_≡_};
 ghost use mathlib.Core.List.{List};
-ghost use Prim.Native.Nat.{ℕ, _≤_, _<_};
+ghost use Prim.Native.Nat.{ℕ, _≤_};
 ghost use lib.ListN.{length, drop};
 ghost use Rattle.words.specs.Bytes.{word};
 ghost use Rattle.matrices.specs.Entries.{matrix};
 ghost use Rattle.matrices.specs.Questions.{ofEntries};
 ghost use Rattle.cards.specs.Card.{Target, fields, afterBound, afterTarget};
 ghost use Rattle.cards.specs.Calls.{answerOf, AnswersProduct, AnswersMatrix, AnswersTarget, AnswersRead};
-ghost use Rattle.cards.specs.Reading.{GoalIs, Listed, SomeListed, ofLongForm};
-
-// The most letters of a list, and the most generators. And the most letters of a reduced list, and of a matrix's normal form that is written.
-const LETTERS: usize = 4096;
-
-const GENERATORS: usize = 64;
-
-const REDUCED: usize = 320;
-
-const FORM: usize = 80;
+ghost use Rattle.cards.specs.Reading.{GoalIs, Listed, SomeListed};
 
 // The engine's verdict as a card's answer.
 fn answered(n: Factors, verdict: Verdict) -> Answer
@@ -61,19 +54,19 @@ fn answer_letters(
         (record { first = now (first .entry); second = now (second .entry); witness = now (witness .entry) })
         (record { first = now (first .exit); second = now (second .exit); witness = now (witness .exit) })) ⌝ }
 {
-    let mut letters = [0u8; LETTERS];
+    let mut letters = [0u8; WORD_LETTERS];
     let mut ends = [0u16; GENERATORS];
     match flatten(card, start, count, &mut letters, &mut ends) {
         Flat::Refused(refusal) => Answer::Refused(refusal),
         Flat::Letters(total) => {
-            let bound = n.0;
+            let len = total.0 as usize;
             answered(
-                Factors(bound),
+                n,
                 engine::judge(
-                    &letters[..total],
+                    &letters[..len],
                     &ends[..count],
                     target,
-                    Factors(bound),
+                    n,
                     first,
                     second,
                     witness,
@@ -83,32 +76,8 @@ fn answer_letters(
     }
 }
 
-// The refusal of a card whose matrix has a normal form above 80 letters: the list's questions come before question 12.
-fn refuse_long(card: &[u8], start: usize, count: usize) -> Refusal
-    requires { ⌜ SomeListed (now card) start count ⌝ }
-    ensures { λ r. ⌜ ((list : List (List ℕ)) → Listed (now (card .entry)) start count list → ofLongForm list ≡ Asked.Refused r) ⌝ }
-{
-    let mut letters = [0u8; LETTERS];
-    let mut ends = [0u16; GENERATORS];
-    let mut reduced = [0u8; REDUCED];
-    let mut reduced_ends = [0u16; GENERATORS];
-    match flatten(card, start, count, &mut letters, &mut ends) {
-        Flat::Refused(refusal) => refusal,
-        Flat::Letters(total) => {
-            match lists::reduce_list(
-                &letters[..total],
-                &ends[..count],
-                &mut reduced,
-                &mut reduced_ends,
-            ) {
-                Written::Refused(refusal) => refusal,
-                Written::Length(_) => Refusal::NormalFormTooLong,
-            }
-        }
-    }
-}
-
-// The answer to a bound, a matrix, and the list that fills the card from `start` on.
+// The answer to a bound, a matrix, and the list that fills the card from `start` on. Where the normal form is too long, T to the 41st, which is too long
+// too, stands for it: the list's questions come before question 12.
 fn answer_matrix(
     card: &[u8],
     start: usize,
@@ -125,7 +94,7 @@ fn answer_matrix(
         (record { first = now (first .entry); second = now (second .entry); witness = now (witness .entry) })
         (record { first = now (first .exit); second = now (second .exit); witness = now (witness .exit) })) ⌝ }
 {
-    let mut form = [0u8; FORM];
+    let mut form = [0u8; FORM_ROOM];
     match matrices::matrix_to_word(m, &mut form) {
         Written::Length(t) => answer_letters(
             card,
@@ -138,7 +107,16 @@ fn answer_matrix(
             witness,
         ),
         Written::Refused(refusal) => match refusal {
-            Refusal::NormalFormTooLong => Answer::Refused(refuse_long(card, start, count)),
+            Refusal::NormalFormTooLong => answer_letters(
+                card,
+                start,
+                count,
+                b"SRSRSRSRSRSRSRSRSRSRSRSRSRSRSRSRSRSRSRSRSRSRSRSRSRSRSRSRSRSRSRSRSRSRSRSRSRSRSRSRSR",
+                n,
+                first,
+                second,
+                witness,
+            ),
             _ => Answer::Refused(refusal),
         },
     }
@@ -251,6 +229,6 @@ pub(crate) fn answer_fields(
 {
     match reading::bound(card, map) {
         BoundAt::Cut => Answer::Refused(Refusal::FieldCut(card.len())),
-        BoundAt::Whole(n, at) => answer_target(card, map, Factors(n), at, first, second, witness),
+        BoundAt::Whole(n, at) => answer_target(card, map, n, at, first, second, witness),
     }
 }

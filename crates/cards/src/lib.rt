@@ -4,6 +4,7 @@ mod flattening;
 mod reading;
 
 use answers::Answer;
+use limits::CARD_BYTES;
 use words::Refusal;
 ghost use Rattle.cards.specs.Calls.{AnswersCard};
 
@@ -13,7 +14,7 @@ pub fn answer_card(card: &[u8], first: &mut [u16], second: &mut [u16], witness: 
         (record { first = now (first .entry); second = now (second .entry); witness = now (witness .entry) })
         (record { first = now (first .exit); second = now (second .exit); witness = now (witness .exit) }) ⌝ }
 {
-    if 8326 < card.len() {
+    if CARD_BYTES < card.len() {
         return Answer::Refused(Refusal::CardTooLong);
     }
     if card.len() == 0 {

@@ -8,6 +8,7 @@ use fields::reader::byte_after;
 use fields::reader::short_after;
 use fields::signed_after;
 use matrices::Matrix;
+use words::Factors;
 ghost use mathlib.Core.Path.{_≡_};
 ghost use mathlib.Core.Bool.{false};
 ghost use Prim.Native.Nat.{_≤_};
@@ -16,12 +17,12 @@ ghost use Rattle.words.specs.Bytes.{pick};
 ghost use Rattle.cards.specs.Card.{bit, boundField, matrixField, lettersTarget, matrixTarget, targetField, generatorFields, countedList, listField};
 ghost use Rattle.cards.specs.Reading.{BoundIs, MatrixIs, TargetIs, SkippedTo, ListIs};
 
-// What n a card asks without the field.
+// What n a card asks without the field. Question 13 has the same number, for another reason.
 const DEFAULT_BOUND: u16 = 1000;
 
 // The bound, and where the rest begins.
 pub(crate) enum BoundAt {
-    Whole(u16, usize),
+    Whole(Factors, usize),
     Cut,
 }
 
@@ -81,10 +82,10 @@ pub(crate) fn bound(card: &[u8], map: u8) -> BoundAt
     if has(map, 1) {
         return match short_after(card, 1) {
             Short::Cut => BoundAt::Cut,
-            Short::Whole(n) => BoundAt::Whole(n, 3),
+            Short::Whole(n) => BoundAt::Whole(Factors(n), 3),
         };
     }
-    BoundAt::Whole(DEFAULT_BOUND, 1)
+    BoundAt::Whole(Factors(DEFAULT_BOUND), 1)
 }
 
 // The matrix whose four numbers stand at `at`.

@@ -1,14 +1,17 @@
 -- The list behind its first i generators, as a loop over the ends meets it. Assumes nothing.
-use mathlib.Core.Path.{_≡_, sym, ap, subst, _∙_}
+use mathlib.Core.Bool.{Bool, true, false}
+use mathlib.Core.Path.{_≡_, refl, sym, ap, subst, _∙_}
 use mathlib.Core.List.{List, [], _∷_, append-nil}
 use Prim.Native.Nat.{ℕ, suc, _+_, _≤_, _<_}
 use native.Mathlib.Numerals.{add-one}
 use native.Mathlib.Omega.{arith}
+use lib.Dec.{leb}
 use lib.ListN.{length, take, drop, getD}
 use lib.Seq.{slice, drop-cons, take-all}
 use borrow.Author.Tests.{le-leb, lt-leb}
+use Rattle.limits.specs.Limits.{mostOfGenerator, mostOfList}
 use Rattle.words.specs.Word.{Word, nf}
-use Rattle.words.specs.Bytes.{word}
+use Rattle.words.specs.Bytes.{word, pick}
 use Rattle.products.specs.Product.{generatorsFrom, generators}
 use Rattle.products.proofs.Generators.{generators-length}
 use Rattle.lists.specs.Questions.{lastEnd, firstLong}
@@ -56,16 +59,20 @@ module _ (bytes ends : List ℕ) (from i : ℕ) (h : i < length ends) {end : ℕ
 
 -- ---- the search for the first generator that is too long
 
+either-way : (b : Bool) (n : ℕ) → pick b n n ≡ n
+either-way true n = refl
+either-way false n = refl
+
 -- the next generator is g, whose normal form has `len` letters
 module _ (sum : ℕ) {all : List Word} (g : Word) (rest : List Word) (splits : all ≡ g ∷ rest) {len : ℕ} (l : len ≡ length (nf g)) where
-  pub long-form : 80 < len → firstLong sum all ≡ 0
-  long-form h = ap (firstLong sum) splits ∙ simp (lt-leb (length (nf g)) 80 (omega arith))
+  pub long-form : mostOfGenerator < len → firstLong sum all ≡ 0
+  long-form h = ap (firstLong sum) splits ∙ simp (lt-leb (length (nf g)) mostOfGenerator (omega arith))
 
-  pub long-sum : len ≤ 80 → 320 < sum + len → firstLong sum all ≡ 0
-  long-sum h k = ap (firstLong sum) splits ∙ simp (le-leb (length (nf g)) 80 (omega arith), lt-leb (sum + length (nf g)) 320 (omega arith))
+  pub long-sum : mostOfList < sum + len → firstLong sum all ≡ 0
+  long-sum k = ap (firstLong sum) splits ∙ simp (lt-leb (sum + length (nf g)) mostOfList (omega arith)) (either-way (leb (length (nf g)) mostOfGenerator) 0)
 
-  pub long-later : len ≤ 80 → sum + len ≤ 320 → firstLong sum all ≡ suc (firstLong (sum + len) rest)
-  long-later h k = ap (firstLong sum) splits ∙ rw l (simp (le-leb (length (nf g)) 80 (omega arith), le-leb (sum + length (nf g)) 320 (omega arith)))
+  pub long-later : len ≤ mostOfGenerator → sum + len ≤ mostOfList → firstLong sum all ≡ suc (firstLong (sum + len) rest)
+  long-later h k = ap (firstLong sum) splits ∙ rw l (simp (le-leb (length (nf g)) mostOfGenerator (omega arith), le-leb (sum + length (nf g)) mostOfList (omega arith)))
 
 -- where no generator is too long, those before the first that is are all of them
 pub all-pass : (bytes ends : List ℕ) (count : ℕ) → length ends ≤ count → take count (generators bytes ends) ≡ generators bytes ends

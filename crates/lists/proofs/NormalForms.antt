@@ -6,6 +6,7 @@ use native.Mathlib.Omega.{arith}
 use lib.ListN.{length, take, drop, length-drop, drop-of-length-le}
 use lib.Seq.{slice, paste, length-slice, take-all, drop-drop}
 use borrow.Rule.Slice.PartMut.{putMid}
+use Rattle.limits.specs.Limits.{mostLetters}
 use Rattle.words.specs.Word.{nf}
 use Rattle.words.specs.Bytes.{word, bytes}
 use Rattle.words.specs.Questions.{ofWord}
@@ -20,7 +21,7 @@ use Rattle.lists.specs.Reducing.{AllLetters}
 use Rattle.lists.proofs.FirstOthers.{all-letters-slice}
 
 module _ (list : List ℕ) (from end : ℕ) (before : List ℕ) (r : Written) (after : List ℕ) (part : List ℕ)
-    (is-slice : part ≡ slice from end list) (letters : AllLetters list) (within : end ≤ length list) (short : length list ≤ 4096) (room : 4096 ≤ length before)
+    (is-slice : part ≡ slice from end list) (letters : AllLetters list) (within : end ≤ length list) (short : length list ≤ mostLetters) (room : mostLetters ≤ length before)
     (writes : Writes nf 1 part before r after) where
   w : List ℕ
   w = slice from end list

@@ -6,6 +6,7 @@ use native.Mathlib.Omega.{arith}
 use lib.Dec.{leb, eqb}
 use lib.ListN.{length}
 use borrow.Author.Tests.{leb-true, le-leb, eqb-true}
+use Rattle.limits.specs.Limits.{mostGenerators, mostLetters}
 use Rattle.words.specs.Questions.{asks, firstNo, firstOther, question8, question10, ofLetters}
 use Rattle.words.specs.declared.Refusal.the-variants.{TooManyGenerators, TooManyLetters, EndsWrong, NotALetter}
 use Rattle.words.specs.declared.Asked.{Asked}
@@ -17,9 +18,9 @@ use Rattle.lists.proofs.FirstOthers.{all-letters-front, all-letters-beh
 use Rattle.lists.proofs.Refusing.{ends-right, by-letters}
 
 pub record ListPassed (bytes ends target : List ℕ) : Type 0 where
-  pub few : length ends ≤ 64
-  pub short : length bytes ≤ 4096
-  pub target-short : length target ≤ 4096
+  pub few : length ends ≤ mostGenerators
+  pub short : length bytes ≤ mostLetters
+  pub target-short : length target ≤ mostLetters
   pub none-falls : length ends ≤ firstFall 0 ends
   pub last : lastEnd 0 ends ≡ length bytes
   pub letters : AllLetters (bytes ++ target)
@@ -37,9 +38,9 @@ list-passed bytes ends target e =
     let fall : Asked = asks (leb (length ends) (firstFall 0 ends)) (EndsWrong (firstFall 0 ends)) in
     let ending : Asked = asks (eqb (lastEnd 0 ends) (length bytes)) (EndsWrong (length ends)) in
     record {
-      few = leb-true (length ends) 64 (asks-passed (leb (length ends) 64) TooManyGenerators (first-no-head (question7 (length ends)) (question8 (length bytes) ∷ from8) e));
-      short = leb-true (length bytes) 4096 (asks-passed (leb (length bytes) 4096) TooManyLetters (first-no-head (question8 (length bytes)) from8 e8));
-      target-short = leb-true (length target) 4096 (asks-passed (leb (length target) 4096) TooManyLetters (first-no-head (question8 (length target)) from9 e8t));
+      few = leb-true (length ends) mostGenerators (asks-passed (leb (length ends) mostGenerators) TooManyGenerators (first-no-head (question7 (length ends)) (question8 (length bytes) ∷ from8) e));
+      short = leb-true (length bytes) mostLetters (asks-passed (leb (length bytes) mostLetters) TooManyLetters (first-no-head (question8 (length bytes)) from8 e8));
+      target-short = leb-true (length target) mostLetters (asks-passed (leb (length target) mostLetters) TooManyLetters (first-no-head (question8 (length target)) from9 e8t));
       none-falls = leb-true (length ends) (firstFall 0 ends) (asks-passed (leb (length ends) (firstFall 0 ends)) (EndsWrong (firstFall 0 ends)) (first-no-head fall (ending ∷ []) right));
       last =
           eqb-true (lastEnd 0 ends) (length bytes)
@@ -61,6 +62,6 @@ module _ (bytes ends target : List ℕ) (passed : ofList bytes ends target ≡ P
   pub target-alone : ofLetters target ≡ Passed
   target-alone =
       let p = list-passed bytes ends target passed in
-      yes-first (leb (length target) 4096) TooManyLetters (question10 target ∷ []) (le-leb (length target) 4096 (p .target-short))
+      yes-first (leb (length target) mostLetters) TooManyLetters (question10 target ∷ []) (le-leb (length target) mostLetters (p .target-short))
       ∙ yes-first (leb (length target) (firstOther target)) (NotALetter (firstOther target)) []
       (le-leb (length target) (firstOther target) (all-letters-behind bytes target (p .letters)))

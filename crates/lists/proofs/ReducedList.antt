@@ -1,4 +1,4 @@
--- What a caller learns from the answer when a list that has passed questions 7 to 10 is reduced into room enough: 320 letters and 64 ends.
+-- What a caller learns from the answer when a list that has passed questions 7 to 10 is reduced into just the room that questions 7 and 11 ask for.
 -- Assumes nothing.
 use mathlib.Core.Bool.{Bool, true, false}
 use mathlib.Core.Path.{_≡_, refl, sym, ap, _∙_}
@@ -9,6 +9,7 @@ use native.Mathlib.Omega.{arith}
 use lib.Dec.{leb}
 use lib.ListN.{length, take}
 use borrow.Author.Tests.{le-leb, leb-true}
+use Rattle.limits.specs.Limits.{mostGenerators, mostOfGenerator, mostOfList}
 use Rattle.words.specs.Word.{Word, nf}
 use Rattle.words.specs.Bytes.{pick}
 use Rattle.words.specs.Questions.{firstNo, question14}
@@ -31,26 +32,26 @@ use Rattle.lists.specs.Calls.{ofReducedList, ReducesList}
 use Rattle.lists.proofs.Passing.{list-passed}
 use Rattle.lists.proofs.NormalList.{normal-bytes-length, normal-ends-length}
 
--- where no generator is too long, the sum is at most 320
-sum-short : (sum : ℕ) (gens : List Word) → sum ≤ 320 → length gens ≤ firstLong sum gens → sum + total gens ≤ 320
+-- where no generator is too long, nor is the sum
+sum-short : (sum : ℕ) (gens : List Word) → sum ≤ mostOfList → length gens ≤ firstLong sum gens → sum + total gens ≤ mostOfList
 sum-short sum [] low h = omega arith
 sum-short sum (g ∷ gens) low h =
-    by (leb (length (nf g)) 80) (leb (sum + length (nf g)) 320) refl h (sum-short (sum + length (nf g)) gens)
+    by (leb (length (nf g)) mostOfGenerator) (leb (sum + length (nf g)) mostOfList) refl h (sum-short (sum + length (nf g)) gens)
   where
-    by : (a b : Bool) → leb (sum + length (nf g)) 320 ≡ b → suc (length gens) ≤ pick a (pick b (suc (firstLong (sum + length (nf g)) gens)) 0) 0
-        → (sum + length (nf g) ≤ 320 → length gens ≤ firstLong (sum + length (nf g)) gens → sum + length (nf g) + total gens ≤ 320)
-        → sum + (length (nf g) + total gens) ≤ 320
-    by true true e h rest = omega (arith, rest (leb-true (sum + length (nf g)) 320 e) (le-of-suc-le-suc h))
+    by : (a b : Bool) → leb (sum + length (nf g)) mostOfList ≡ b → suc (length gens) ≤ pick a (pick b (suc (firstLong (sum + length (nf g)) gens)) 0) 0
+        → (sum + length (nf g) ≤ mostOfList → length gens ≤ firstLong (sum + length (nf g)) gens → sum + length (nf g) + total gens ≤ mostOfList)
+        → sum + (length (nf g) + total gens) ≤ mostOfList
+    by true true e h rest = omega (arith, rest (leb-true (sum + length (nf g)) mostOfList e) (le-of-suc-le-suc h))
     by true false e h rest = absurd (not-suc-le-zero h)
     by false b e h rest = absurd (not-suc-le-zero h)
 
-pub total-short : (gens : List Word) → question11 gens ≡ Passed → total gens ≤ 320
+pub total-short : (gens : List Word) → question11 gens ≡ Passed → total gens ≤ mostOfList
 total-short gens e =
     let short = leb-true (length gens) (firstLong 0 gens) (asks-passed (leb (length gens) (firstLong 0 gens)) (GeneratorTooLong (firstLong 0 gens)) e) in
     omega (arith, sum-short 0 gens (omega arith) short)
 
 module _ (bytes ends before beforeEnds after afterEnds : List ℕ) (r : Written) (h : ReducesList bytes ends before beforeEnds r after afterEnds)
-    (checked : Checked bytes ends) (room : length before ≡ 320) (room-ends : length beforeEnds ≡ 64) where
+    (checked : Checked bytes ends) (room : length before ≡ mostOfList) (room-ends : length beforeEnds ≡ mostGenerators) where
   abbrev gens : List Word
   gens = generators bytes ends
 

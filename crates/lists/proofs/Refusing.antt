@@ -5,6 +5,7 @@ use Prim.Native.Nat.{ℕ, _≤_, _<_}
 use lib.Dec.{leb, eqb}
 use lib.ListN.{length}
 use borrow.Author.Tests.{le-leb, lt-leb, eq-eqb, ne-eqb}
+use Rattle.limits.specs.Limits.{mostGenerators, mostLetters}
 use Rattle.words.specs.Questions.{asks, firstNo, question8, question10}
 use Rattle.words.specs.declared.Refusal.{Refusal}
 use Rattle.words.specs.declared.Refusal.the-variants.{TooManyGenerators, TooManyLetters, EndsWrong}
@@ -41,28 +42,28 @@ module _ (bytes ends target : List ℕ) where
   abbrev from8 : List Asked
   from8 = question8 (length target) ∷ from9
 
-  few-generators : length ends ≤ 64 → ofList bytes ends target ≡ firstNo (question8 (length bytes) ∷ from8)
-  few-generators h = yes-first (leb (length ends) 64) TooManyGenerators (question8 (length bytes) ∷ from8) (le-leb (length ends) 64 h)
+  few-generators : length ends ≤ mostGenerators → ofList bytes ends target ≡ firstNo (question8 (length bytes) ∷ from8)
+  few-generators h = yes-first (leb (length ends) mostGenerators) TooManyGenerators (question8 (length bytes) ∷ from8) (le-leb (length ends) mostGenerators h)
 
-  pub too-many-generators : 64 < length ends → ofList bytes ends target ≡ Refused TooManyGenerators
-  too-many-generators h = no-first (leb (length ends) 64) TooManyGenerators (question8 (length bytes) ∷ from8) (lt-leb (length ends) 64 h)
+  pub too-many-generators : mostGenerators < length ends → ofList bytes ends target ≡ Refused TooManyGenerators
+  too-many-generators h = no-first (leb (length ends) mostGenerators) TooManyGenerators (question8 (length bytes) ∷ from8) (lt-leb (length ends) mostGenerators h)
 
-  pub too-many-letters : length ends ≤ 64 → 4096 < length bytes → ofList bytes ends target ≡ Refused TooManyLetters
-  too-many-letters h k = few-generators h ∙ no-first (leb (length bytes) 4096) TooManyLetters from8 (lt-leb (length bytes) 4096 k)
+  pub too-many-letters : length ends ≤ mostGenerators → mostLetters < length bytes → ofList bytes ends target ≡ Refused TooManyLetters
+  too-many-letters h k = few-generators h ∙ no-first (leb (length bytes) mostLetters) TooManyLetters from8 (lt-leb (length bytes) mostLetters k)
 
-  few-letters : length ends ≤ 64 → length bytes ≤ 4096 → ofList bytes ends target ≡ firstNo from8
-  few-letters h k = few-generators h ∙ yes-first (leb (length bytes) 4096) TooManyLetters from8 (le-leb (length bytes) 4096 k)
+  few-letters : length ends ≤ mostGenerators → length bytes ≤ mostLetters → ofList bytes ends target ≡ firstNo from8
+  few-letters h k = few-generators h ∙ yes-first (leb (length bytes) mostLetters) TooManyLetters from8 (le-leb (length bytes) mostLetters k)
 
-  pub target-too-long : length ends ≤ 64 → length bytes ≤ 4096 → 4096 < length target → ofList bytes ends target ≡ Refused TooManyLetters
-  target-too-long h k l = few-letters h k ∙ no-first (leb (length target) 4096) TooManyLetters from9 (lt-leb (length target) 4096 l)
+  pub target-too-long : length ends ≤ mostGenerators → length bytes ≤ mostLetters → mostLetters < length target → ofList bytes ends target ≡ Refused TooManyLetters
+  target-too-long h k l = few-letters h k ∙ no-first (leb (length target) mostLetters) TooManyLetters from9 (lt-leb (length target) mostLetters l)
 
-  lengths-right : length ends ≤ 64 → length bytes ≤ 4096 → length target ≤ 4096 → ofList bytes ends target ≡ firstNo from9
-  lengths-right h k l = few-letters h k ∙ yes-first (leb (length target) 4096) TooManyLetters from9 (le-leb (length target) 4096 l)
+  lengths-right : length ends ≤ mostGenerators → length bytes ≤ mostLetters → length target ≤ mostLetters → ofList bytes ends target ≡ firstNo from9
+  lengths-right h k l = few-letters h k ∙ yes-first (leb (length target) mostLetters) TooManyLetters from9 (le-leb (length target) mostLetters l)
 
-  pub ends-wrong : length ends ≤ 64 → length bytes ≤ 4096 → length target ≤ 4096 → {refusal : Refusal} → question9 ends (length bytes) ≡ Refused refusal
+  pub ends-wrong : length ends ≤ mostGenerators → length bytes ≤ mostLetters → length target ≤ mostLetters → {refusal : Refusal} → question9 ends (length bytes) ≡ Refused refusal
       → ofList bytes ends target ≡ Refused refusal
   ends-wrong h k l e = lengths-right h k l ∙ refused-first (question9 ends (length bytes)) from10 e
 
-  pub by-letters : length ends ≤ 64 → length bytes ≤ 4096 → length target ≤ 4096 → question9 ends (length bytes) ≡ Passed
+  pub by-letters : length ends ≤ mostGenerators → length bytes ≤ mostLetters → length target ≤ mostLetters → question9 ends (length bytes) ≡ Passed
       → ofList bytes ends target ≡ question10 (bytes ++ target)
   by-letters h k l e = lengths-right h k l ∙ passed-first (question9 ends (length bytes)) from10 e ∙ first-no-one (question10 (bytes ++ target))

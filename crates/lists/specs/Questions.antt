@@ -3,6 +3,7 @@ use mathlib.Core.List.{List, [], _∷_, _++_}
 use Prim.Native.Nat.{ℕ, suc, _+_}
 use lib.Dec.{leb, eqb}
 use lib.ListN.{length}
+use Rattle.limits.specs.Limits.{mostGenerators, mostOfGenerator, mostOfList}
 use Rattle.words.specs.Word.{Word, nf}
 use Rattle.words.specs.Bytes.{pick}
 use Rattle.words.specs.Questions.{asks, firstNo, question8, question10}
@@ -11,7 +12,7 @@ use Rattle.words.specs.declared.Asked.{Asked}
 
 -- 7: "Are there at most 64 generators?"
 abbrev pub question7 : ℕ → Asked
-question7 count = asks (leb count 64) TooManyGenerators
+question7 count = asks (leb count mostGenerators) TooManyGenerators
 
 -- the index of the first end that is below the one before it, or the number of ends; `from` is the end before
 abbrev pub firstFall : ℕ → List ℕ → ℕ
@@ -29,12 +30,12 @@ abbrev pub question9 : List ℕ → ℕ → Asked
 question9 ends letters =
     firstNo (asks (leb (length ends) (firstFall 0 ends)) (EndsWrong (firstFall 0 ends)) ∷ asks (eqb (lastEnd 0 ends) letters) (EndsWrong (length ends)) ∷ [])
 
--- the index of the first generator whose normal form has more than 80 letters, or with which the sum is above 320, or the number of
+-- the index of the first generator whose normal form is too long, or with which the sum is too large, or the number of
 -- generators; `sum` is that of the generators before
 abbrev pub firstLong : ℕ → List Word → ℕ
 firstLong sum [] = 0
 firstLong sum (g ∷ gens) =
-    pick (leb (length (nf g)) 80) (pick (leb (sum + length (nf g)) 320) (suc (firstLong (sum + length (nf g)) gens)) 0) 0
+    pick (leb (length (nf g)) mostOfGenerator) (pick (leb (sum + length (nf g)) mostOfList) (suc (firstLong (sum + length (nf g)) gens)) 0) 0
 
 -- 11: "Has each generator's normal form at most 80 letters, and the sum up to it at most 320? Place: the first generator where it fails."
 abbrev pub question11 : List Word → Asked

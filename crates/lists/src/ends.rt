@@ -4,8 +4,9 @@ use words::Refusal;
 use words::widening::wide;
 ghost use mathlib.Core.Path.{_≡_};
 ghost use mathlib.Core.List.{_++_};
-ghost use Prim.Native.Nat.{_+_, _≤_};
+ghost use Prim.Native.Nat.{_+_, _*_, _≤_};
 ghost use lib.ListN.{length};
+ghost use Rattle.limits.specs.Limits.{mostLetters};
 ghost use Rattle.words.specs.Questions.{question10};
 ghost use Rattle.lists.specs.Questions.{firstFall, lastEnd, question9};
 
@@ -37,14 +38,14 @@ fn last_end(ends: &[u16]) -> usize
 }
 
 // Question 9.
-pub(crate) fn of_ends(ends: &[u16], letters: usize) -> Asked
-    ensures { λ r. ⌜ r ≡ question9 (now (ends .entry)) letters ⌝ }
+pub(crate) fn of_ends(ends: &[u16], bytes: &[u8]) -> Asked
+    ensures { λ r. ⌜ r ≡ question9 (now (ends .entry)) (length (now (bytes .entry))) ⌝ }
 {
     let fall = first_fall(ends);
     if fall < ends.len() {
         return Asked::Refused(Refusal::EndsWrong(fall));
     }
-    if last_end(ends) == letters {
+    if last_end(ends) == bytes.len() {
         return Asked::Passed;
     }
     Asked::Refused(Refusal::EndsWrong(ends.len()))
@@ -52,7 +53,7 @@ pub(crate) fn of_ends(ends: &[u16], letters: usize) -> Asked
 
 // Question 10 of a list's letters, and then a target's.
 pub(crate) fn of_all_letters(bytes: &[u8], target: &[u8]) -> Asked
-    requires { ⌜ length (now bytes) + length (now target) ≤ 8192 ⌝ }
+    requires { ⌜ length (now bytes) + length (now target) ≤ 2 * mostLetters ⌝ }
     ensures { λ r. ⌜ r ≡ question10 (now (bytes .entry) ++ now (target .entry)) ⌝ }
 {
     let first = words::questions::first_other(bytes);

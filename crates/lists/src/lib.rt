@@ -3,11 +3,14 @@
 mod ends;
 mod reducing;
 
+use limits::GENERATORS;
+use limits::LIST_ROOM;
+use limits::WORD_LETTERS;
 use words::Asked;
-use words::Letters;
 use words::Refusal;
 use words::Written;
 use words::copying::copy_at;
+use words::widening::wide;
 ghost use mathlib.Core.Path.{_≡_};
 ghost use Rattle.lists.specs.Questions.{ofList};
 ghost use Rattle.lists.specs.Reducing.{Checked};
@@ -17,16 +20,16 @@ ghost use Rattle.lists.specs.Calls.{ReducesList};
 pub fn of_list(bytes: &[u8], ends: &[u16], target: &[u8]) -> Asked
     ensures { λ r. ⌜ r ≡ ofList (now (bytes .entry)) (now (ends .entry)) (now (target .entry)) ⌝ }
 {
-    if 64 < ends.len() {
+    if GENERATORS < ends.len() {
         return Asked::Refused(Refusal::TooManyGenerators);
     }
-    if 4096 < bytes.len() {
+    if WORD_LETTERS < bytes.len() {
         return Asked::Refused(Refusal::TooManyLetters);
     }
-    if 4096 < target.len() {
+    if WORD_LETTERS < target.len() {
         return Asked::Refused(Refusal::TooManyLetters);
     }
-    match ends::of_ends(ends, bytes.len()) {
+    match ends::of_ends(ends, bytes) {
         Asked::Refused(refusal) => Asked::Refused(refusal),
         Asked::Passed => ends::of_all_letters(bytes, target),
     }
@@ -44,11 +47,8 @@ pub fn reduce_list(bytes: &[u8], ends: &[u16], out: &mut [u8], out_ends: &mut [u
     }
 }
 
-// The most generators that question 7 lets pass.
-const GENERATORS: usize = 64;
-
-// Room for the 320 letters that question 11 lets pass, and for one generator that it does not.
-const FORMS: usize = 4416;
+// Room for the letters that question 11 lets pass, and for one generator that it does not.
+const FORMS: usize = LIST_ROOM + WORD_LETTERS;
 
 // The same, of a list that has passed questions 7 to 10. The forms are first written to slices of its own: a refusal changes no lent one.
 fn reduce_checked(bytes: &[u8], ends: &[u16], out: &mut [u8], out_ends: &mut [u16]) -> Written
@@ -61,13 +61,15 @@ fn reduce_checked(bytes: &[u8], ends: &[u16], out: &mut [u8], out_ends: &mut [u1
     if reduced.count < ends.len() {
         return Written::Refused(Refusal::GeneratorTooLong(reduced.count));
     }
-    if out.len() < reduced.sum {
+    let sum = reduced.sum;
+    let len = wide(sum.0);
+    if out.len() < len {
         return Written::Refused(Refusal::OutputTooShort);
     }
     if out_ends.len() < ends.len() {
         return Written::Refused(Refusal::OutputTooShort);
     }
-    copy_at(&forms[..reduced.sum], out, 0);
+    copy_at(&forms[..len], out, 0);
     reducing::copy_ends(&form_ends, ends.len(), out_ends);
-    Written::Length(Letters(reduced.sum as u16))
+    Written::Length(sum)
 }

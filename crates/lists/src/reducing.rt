@@ -1,10 +1,14 @@
 // The generators of a list, reduced one after the other. A list is here one that has passed questions 7 to 10.
+use limits::GENERATOR_LETTERS;
+use limits::LIST_LETTERS;
+use words::Letters;
 use words::Written;
 use words::widening::wide;
 ghost use mathlib.Core.Path.{_≡_};
 ghost use Prim.Native.Nat.{_+_, _≤_, _<_};
 ghost use lib.ListN.{length, take};
 ghost use lib.Seq.{slice, paste};
+ghost use Rattle.limits.specs.Limits.{mostLetters, mostOfList};
 ghost use Rattle.words.specs.Word.{nf};
 ghost use Rattle.words.specs.Bytes.{bytes as bytesOf, word};
 ghost use Rattle.words.specs.Slices.{overwritten};
@@ -14,25 +18,25 @@ ghost use Rattle.lists.specs.NormalList.{total, normalBytes, normalEnds}
 ghost use Rattle.lists.specs.Reducing.{Checked, AllLetters};
 
 // Writes the normal form of the generator that runs from one end up to another to `out` from the place `at` on.
-fn normal_form(bytes: &[u8], from: usize, end: usize, out: &mut [u8], at: usize) -> usize
+fn normal_form(bytes: &[u8], from: usize, end: usize, out: &mut [u8], at: usize) -> Letters
     requires { ⌜ from ≤ end ⌝ }
     requires { ⌜ end ≤ length (now bytes) ⌝ }
     requires { ⌜ AllLetters (now bytes) ⌝ }
-    requires { ⌜ length (now bytes) ≤ 4096 ⌝ }
-    requires { ⌜ at + 4096 ≤ length (now out) ⌝ }
-    ensures { λ r. ⌜ r ≡ length (nf (word (slice from end (now (bytes .entry))))) ⌝ }
-    ensures { λ r. ⌜ now (out .exit) ≡ paste (now (out .entry)) at (bytesOf (nf (word (slice from end (now (bytes .entry)))))) r ⌝ }
+    requires { ⌜ length (now bytes) ≤ mostLetters ⌝ }
+    requires { ⌜ at + mostLetters ≤ length (now out) ⌝ }
+    ensures { λ r. ⌜ r .0 ≡ length (nf (word (slice from end (now (bytes .entry))))) ⌝ }
+    ensures { λ r. ⌜ now (out .exit) ≡ paste (now (out .entry)) at (bytesOf (nf (word (slice from end (now (bytes .entry)))))) (r .0) ⌝ }
 {
     match words::reduce(&bytes[from..end], &mut out[at..]) {
-        Written::Length(letters) => wide(letters.0),
-        Written::Refused(_) => 0,
+        Written::Length(letters) => letters,
+        Written::Refused(_) => Letters(0),
     }
 }
 
 // How many generators come before the first where question 11 is answered no, and the sum of the lengths of their normal forms.
 pub(crate) struct Reduced {
     pub(crate) count: usize,
-    pub(crate) sum: usize,
+    pub(crate) sum: Letters,
 }
 
 // Writes the normal forms of those generators one behind the other to the front of `out`, which has room for one that is too long behind them, and their ends to the
@@ -44,27 +48,27 @@ pub(crate) fn write_forms(
     out_ends: &mut [u16],
 ) -> Reduced
     requires { ⌜ Checked (now bytes) (now ends) ⌝ }
-    requires { ⌜ 4416 ≤ length (now out) ⌝ }
+    requires { ⌜ mostOfList + mostLetters ≤ length (now out) ⌝ }
     requires { ⌜ length (now ends) ≤ length (now «out_ends») ⌝ }
     ensures { λ r. ⌜ r .count ≡ firstLong 0 (generators (now (bytes .entry)) (now (ends .entry))) ⌝ }
-    ensures { λ r. ⌜ (r .sum ≤ 320) × (r .sum ≡ total (take (r .count) (generators (now (bytes .entry)) (now (ends .entry))))) ⌝ }
-    ensures { λ r. ⌜ take (r .sum) (now (out .exit)) ≡ normalBytes (take (r .count) (generators (now (bytes .entry)) (now (ends .entry)))) ⌝ }
+    ensures { λ r. ⌜ (r .sum .0 ≤ mostOfList) × (r .sum .0 ≡ total (take (r .count) (generators (now (bytes .entry)) (now (ends .entry))))) ⌝ }
+    ensures { λ r. ⌜ take (r .sum .0) (now (out .exit)) ≡ normalBytes (take (r .count) (generators (now (bytes .entry)) (now (ends .entry)))) ⌝ }
     ensures { λ r. ⌜ now («out_ends» .exit) ≡ overwritten (normalEnds 0 (take (r .count) (generators (now (bytes .entry)) (now (ends .entry))))) (now («out_ends» .entry)) ⌝ }
 {
-    let mut sum: usize = 0;
+    let mut sum = Letters(0);
     let mut from: usize = 0;
     let mut i = 0;
     while i < ends.len() {
         let end = wide(ends[i]);
-        let len = normal_form(bytes, from, end, out, sum);
-        if 80 < len {
+        let len = normal_form(bytes, from, end, out, wide(sum.0));
+        if GENERATOR_LETTERS < len.0 {
             return Reduced { count: i, sum };
         }
-        if 320 < sum + len {
+        if LIST_LETTERS < sum.0 + len.0 {
             return Reduced { count: i, sum };
         }
-        sum = sum + len;
-        out_ends[i] = sum as u16;
+        sum = Letters(sum.0 + len.0);
+        out_ends[i] = sum.0;
         from = end;
         i += 1;
     }

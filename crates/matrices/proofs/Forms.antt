@@ -12,6 +12,7 @@ use native.Mathlib.Omega.{arith}
 use lib.ListN.{length, take, getD, length-map, List·getD-map}
 use lib.Seq.{take-suc}
 use borrow.Author.Tests.{le-leb, lt-leb}
+use Rattle.limits.specs.Limits.{mostOfForm}
 use Rattle.words.specs.Word.{Letter, Word}
 use Rattle.words.specs.Bytes.{letter, word}
 use Rattle.words.specs.Questions.{asks, firstNo}
@@ -40,16 +41,16 @@ product-more w i h =
     ∙ ap (λ (n : ℕ). matrixOf (take n (word w))) (sym (add-one i))
 
 module _ (w : Word) where
-  pub form-too-long : 80 < length w → ofForm w ≡ Refused NormalFormTooLong
-  form-too-long h = ap (λ (t : Bool). firstNo (asks t NormalFormTooLong ∷ question16 (signed (matrixOf w)) ∷ [])) (lt-leb (length w) 80 h)
+  pub form-too-long : mostOfForm < length w → ofForm w ≡ Refused NormalFormTooLong
+  form-too-long h = ap (λ (t : Bool). firstNo (asks t NormalFormTooLong ∷ question16 (signed (matrixOf w)) ∷ [])) (lt-leb (length w) mostOfForm h)
 
-  pub form-short : length w ≤ 80 → ofForm w ≡ question16 (signed (matrixOf w))
+  pub form-short : length w ≤ mostOfForm → ofForm w ≡ question16 (signed (matrixOf w))
   form-short h =
-      ap (λ (t : Bool). firstNo (asks t NormalFormTooLong ∷ question16 (signed (matrixOf w)) ∷ [])) (le-leb (length w) 80 h)
+      ap (λ (t : Bool). firstNo (asks t NormalFormTooLong ∷ question16 (signed (matrixOf w)) ∷ [])) (le-leb (length w) mostOfForm h)
       ∙ first-no-one (question16 (signed (matrixOf w)))
 
   -- e holds the matrix of w
-  module _ (e : Entries) (l : length w ≤ 80) (h : matrix e ≡ signed (matrixOf w)) where
+  module _ (e : Entries) (l : length w ≤ mostOfForm) (h : matrix e ≡ signed (matrixOf w)) where
     form-by-range : ofForm w ≡ sixteen (question5 (matrix e))
     form-by-range = form-short l ∙ question16-by-5 (signed (matrixOf w)) ∙ ap (λ (m : Matrix). sixteen (question5 m)) (sym h)
 

@@ -17,31 +17,32 @@ use Rattle.words.specs.declared.Refusal.the-variants.{EntryTooLarge, Determinan
 use Rattle.words.specs.declared.Asked.{Asked}
 use Rattle.words.specs.declared.Asked.the-variants.{Passed, Refused}
 use Rattle.words.proofs.Asking.{asks-passed, first-no-one, first-no-head}
-use Rattle.matrices.specs.Questions.{inRange, question5, isOne, question6, question16, ofEntries}
+use Rattle.matrices.specs.Questions.{largestEntry, inRange, question5, isOne, question6, question16, ofEntries}
 
 -- ---- one entry
 
-range-below : (x : ℤ) → ltZ x (negsuc 2147483646) ≡ true → inRange x ≡ false
-range-below (pos n) e = absurd (false≢true e)
-range-below (negsuc n) e = lt-leb (suc n) 2147483647 (omega (arith, ltb-true 2147483646 n e))
+-- a comparison with a number at or beyond the limits, or within them
+range-below : (x : ℤ) (k : ℕ) → ltZ x (negsuc k) ≡ true → largestEntry ≤ suc k → inRange x ≡ false
+range-below (pos n) k e h = absurd (false≢true e)
+range-below (negsuc n) k e h = lt-leb (suc n) largestEntry (omega (arith, ltb-true k n e))
 
-range-above : (x : ℤ) → ltZ (pos 2147483647) x ≡ true → inRange x ≡ false
-range-above (pos n) e = lt-leb n 2147483647 (ltb-true 2147483647 n e)
-range-above (negsuc n) e = absurd (false≢true e)
+range-above : (x : ℤ) (k : ℕ) → ltZ (pos k) x ≡ true → largestEntry ≤ k → inRange x ≡ false
+range-above (pos n) k e h = lt-leb n largestEntry (omega (arith, ltb-true k n e))
+range-above (negsuc n) k e h = absurd (false≢true e)
 
-range-between : (x : ℤ) → ltZ x (negsuc 2147483646) ≡ false → ltZ (pos 2147483647) x ≡ false → inRange x ≡ true
-range-between (pos n) e f = le-leb n 2147483647 (ltb-false 2147483647 n f)
-range-between (negsuc n) e f = le-leb (suc n) 2147483647 (omega (arith, ltb-false 2147483646 n e))
+range-between : (x : ℤ) (k l : ℕ) → ltZ x (negsuc k) ≡ false → ltZ (pos l) x ≡ false → suc k ≤ largestEntry → l ≤ largestEntry → inRange x ≡ true
+range-between (pos n) k l e f g h = le-leb n largestEntry (omega (arith, ltb-false l n f))
+range-between (negsuc n) k l e f g h = le-leb (suc n) largestEntry (omega (arith, ltb-false k n e))
 
 module _ {X x : ℤ} (p : X ≡ x) where
-  pub below-range : ltZ X (negsuc 2147483646) ≡ true → inRange x ≡ false
-  below-range e = range-below x (rw p at e)
+  pub below-range : {k : ℕ} → ltZ X (negsuc k) ≡ true → largestEntry ≤ suc k → inRange x ≡ false
+  below-range {k} e = range-below x k (rw p at e)
 
-  pub above-range : ltZ (pos 2147483647) X ≡ true → inRange x ≡ false
-  above-range e = range-above x (rw p at e)
+  pub above-range : {k : ℕ} → ltZ (pos k) X ≡ true → largestEntry ≤ k → inRange x ≡ false
+  above-range {k} e = range-above x k (rw p at e)
 
-  pub within-range : ltZ X (negsuc 2147483646) ≡ false → ltZ (pos 2147483647) X ≡ false → inRange x ≡ true
-  within-range e f = range-between x (rw p at e) (rw p at f)
+  pub within-range : {k l : ℕ} → ltZ X (negsuc k) ≡ false → ltZ (pos l) X ≡ false → suc k ≤ largestEntry → l ≤ largestEntry → inRange x ≡ true
+  within-range {k} {l} e f = range-between x k l (rw p at e) (rw p at f)
 
 -- ---- four entries
 
@@ -51,10 +52,10 @@ byAnswers s t u v = firstNo (asks s (EntryTooLarge 0) ∷ asks t (EntryTooLarge 
 
 -- each entry is at most that large
 pub record Small (m : Matrix) : Type 0 where
-  pub a-small : natAbs (m .a) ≤ 2147483647
-  pub b-small : natAbs (m .b) ≤ 2147483647
-  pub c-small : natAbs (m .c) ≤ 2147483647
-  pub d-small : natAbs (m .d) ≤ 2147483647
+  pub a-small : natAbs (m .a) ≤ largestEntry
+  pub b-small : natAbs (m .b) ≤ largestEntry
+  pub c-small : natAbs (m .c) ≤ largestEntry
+  pub d-small : natAbs (m .d) ≤ largestEntry
 
 all-yes : (s t u v : Bool) → byAnswers s t u v ≡ Passed → (s ≡ true) × (t ≡ true) × (u ≡ true) × (v ≡ true)
 all-yes true true true true e = (refl, refl, refl, refl)
@@ -83,21 +84,21 @@ module _ (m : Matrix) where
   small-of-passed e =
       let all = all-yes (inRange (m .a)) (inRange (m .b)) (inRange (m .c)) (inRange (m .d)) e in
       record {
-        a-small = leb-true (natAbs (m .a)) 2147483647 (all .0);
-        b-small = leb-true (natAbs (m .b)) 2147483647 (all .1);
-        c-small = leb-true (natAbs (m .c)) 2147483647 (all .2);
-        d-small = leb-true (natAbs (m .d)) 2147483647 (all .3);
+        a-small = leb-true (natAbs (m .a)) largestEntry (all .0);
+        b-small = leb-true (natAbs (m .b)) largestEntry (all .1);
+        c-small = leb-true (natAbs (m .c)) largestEntry (all .2);
+        d-small = leb-true (natAbs (m .d)) largestEntry (all .3);
       }
 
   pub passed-of-small : Small m → question5 m ≡ Passed
   passed-of-small s =
       λ i. byAnswers (in-range (m .a) (s .a-small) i) (in-range (m .b) (s .b-small) i) (in-range (m .c) (s .c-small) i) (in-range (m .d) (s .d-small) i)
     where
-      in-range : (x : ℤ) → natAbs x ≤ 2147483647 → inRange x ≡ true
-      in-range x h = le-leb (natAbs x) 2147483647 h
+      in-range : (x : ℤ) → natAbs x ≤ largestEntry → inRange x ≡ true
+      in-range x h = le-leb (natAbs x) largestEntry h
 
 -- the products that a determinant is the difference of
-pub product-small : (x y : ℤ) → natAbs x ≤ 2147483647 → natAbs y ≤ 2147483647 → natAbs x * natAbs y ≤ 2147483647 * 2147483647
+pub product-small : (x y : ℤ) → natAbs x ≤ largestEntry → natAbs y ≤ largestEntry → natAbs x * natAbs y ≤ largestEntry * largestEntry
 product-small x y h k = mul-le-mul h k
 
 -- ---- the determinant

@@ -10,6 +10,7 @@ use native.Mathlib.Omega.{arith}
 use lib.Dec.{leb}
 use lib.ListN.{length, take}
 use borrow.Author.Tests.{le-leb, leb-true}
+use Rattle.limits.specs.Limits.{mostLetters, mostOfForm}
 use Rattle.words.specs.Word.{Word, nf}
 use Rattle.words.specs.Bytes.{word, bytes}
 use Rattle.words.specs.Questions.{firstNo, firstOther, question8, question10, question12, ofLetters}
@@ -70,10 +71,10 @@ module _ (w : List ℕ) (e : Entries) (h : TurnsWord w (Into e)) where
       first-no-tail (question10 w) (question12 (length (nf (word w))) ∷ question16 (signed (matrixOf (word w))) ∷ [])
       (first-no-tail (question8 (length w)) (question10 w ∷ question12 (length (nf (word w))) ∷ question16 (signed (matrixOf (word w))) ∷ []) (turned .0))
 
-  short : length (nf (word w)) ≤ 80
+  short : length (nf (word w)) ≤ mostOfForm
   short =
-      leb-true (length (nf (word w))) 80
-      (asks-passed (leb (length (nf (word w))) 80) NormalFormTooLong
+      leb-true (length (nf (word w))) mostOfForm
+      (asks-passed (leb (length (nf (word w))) mostOfForm) NormalFormTooLong
       (first-no-head (question12 (length (nf (word w)))) (question16 (signed (matrixOf (word w))) ∷ []) last-two))
 
   same-element : UpToSign (matrixOf (word w)) (matrix e)
@@ -91,7 +92,7 @@ module _ (w : List ℕ) (e : Entries) (h : TurnsWord w (Into e)) where
       in-range : question5 (matrix e) ≡ Passed
       in-range = range-of-16 (matrix e) (ap question16 (turned .1) ∙ sixteenth)
 
-  pub word-matrix-word : (before after : List ℕ) (r : Written) → TurnsMatrix (matrix e) before r after → 80 ≤ length before →
+  pub word-matrix-word : (before after : List ℕ) (r : Written) → TurnsMatrix (matrix e) before r after → mostOfForm ≤ length before →
       (r ≡ Length (record { 0 = length (nf (word w)) })) × (after ≡ overwritten (bytes (nf (word w))) before)
   word-matrix-word before after r t room = (
     t .answer entries-pass (nf (word w)) form ∙ ap (λ (a : Asked). lengthOr a (length (nf (word w)))) passes,
@@ -106,12 +107,12 @@ module _ (w : List ℕ) (e : Entries) (h : TurnsWord w (Into e)) where
 
 -- ---- a matrix, its normal form, and back
 
--- a word of at most 80 letters passes questions 8 and 10
-of-bytes : (w : Word) → length w ≤ 80 → ofLetters (bytes w) ≡ Passed
+-- a word that question 12 lets pass passes questions 8 and 10
+of-bytes : (w : Word) → length w ≤ mostOfForm → ofLetters (bytes w) ≡ Passed
 of-bytes w l = λ i. firstNo (eighth i ∷ tenth i ∷ [])
   where
     eighth : question8 (length (bytes w)) ≡ Passed
-    eighth = asks-yes (leb (length (bytes w)) 4096) TooManyLetters (le-leb (length (bytes w)) 4096 (omega (arith, length-bytes w)))
+    eighth = asks-yes (leb (length (bytes w)) mostLetters) TooManyLetters (le-leb (length (bytes w)) mostLetters (omega (arith, length-bytes w)))
 
     tenth : question10 (bytes w) ≡ Passed
     tenth =
@@ -138,7 +139,7 @@ module _ (m : Matrix) (passes : ofEntries m ≡ Passed) where
       ∙ ap sixteen (passed-of-small (signed (matrixOf w))
       (small-sign (sign-trans (sign-of-signed (matrixOf w)) (p .matrix)) (small-of-passed m (passed-in-range m passes))))
 
-  module _ (w : Word) (p : NormalFormOf m w) (l : length w ≤ 80) where
+  module _ (w : Word) (p : NormalFormOf m w) (l : length w ≤ mostOfForm) where
     same-word : word (bytes w) ≡ w
     same-word = word-bytes w
 

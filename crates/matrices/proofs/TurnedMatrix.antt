@@ -9,6 +9,7 @@ use native.Mathlib.Omega.{arith}
 use lib.Dec.{leb}
 use lib.ListN.{length, take}
 use borrow.Author.Tests.{leb-true}
+use Rattle.limits.specs.Limits.{mostOfForm}
 use Rattle.words.specs.Word.{Word}
 use Rattle.words.specs.Bytes.{bytes}
 use Rattle.words.specs.Questions.{asks, firstNo, question12, question14}
@@ -24,7 +25,7 @@ use Rattle.words.proofs.Asking.{passed-not-refused, asks-passed, first-no-head}
 use Rattle.words.proofs.Answering.{refused-of-answer, passed-of-answer, take-overwritten}
 use Rattle.words.proofs.Bytes.{length-bytes}
 use Rattle.unimodular.specs.Matrix.{Matrix, determinant, NormalFormOf}
-use Rattle.unimodular.proofs.Peeling.{normal-form-exists}
+use Rattle.unimodular.proofs.Descent.{normal-form-exists}
 use Rattle.matrices.specs.Questions.{inRange, isOne, ofEntries, ofNormalForm}
 use Rattle.matrices.specs.Calls.{TurnsMatrix}
 use Rattle.matrices.proofs.Range.{byAnswers, passed-determinant}
@@ -44,12 +45,12 @@ entries-not-too-long m = go (inRange (m .a)) (inRange (m .b)) (inRange (m .c)) (
 
 module _ (m : Matrix) (before after : List ℕ) (r : Written) (h : TurnsMatrix m before r after) where
   -- a refusal is one of the entries, or the normal form is too long
-  pub turned-refused : {refusal : Refusal} → r ≡ Written·Refused refusal → ofEntries m ≡ Passed → 80 ≤ length before → (w : Word) → NormalFormOf m w
-      → (80 < length w) × (refusal ≡ NormalFormTooLong)
+  pub turned-refused : {refusal : Refusal} → r ≡ Written·Refused refusal → ofEntries m ≡ Passed → mostOfForm ≤ length before → (w : Word) → NormalFormOf m w
+      → (mostOfForm < length w) × (refusal ≡ NormalFormTooLong)
   turned-refused {refusal} e passes room w p =
       let asked : ofNormalForm w (length before) ≡ Refused refusal =
       refused-of-answer (ofNormalForm w (length before)) (length w) (sym (h .answer passes w p) ∙ e) in
-      elim (decLe (length w) 80) [
+      elim (decLe (length w) mostOfForm) [
         | yes k ↦ absurd (passed-not-refused (sym asked ∙ letters-and-room (length w) (length before) k room))
         | no k ↦
             let long = letters-too-many (length w) (length before) (lt-of-not-le k) in
@@ -85,10 +86,10 @@ module _ (m : Matrix) (before after : List ℕ) (r : Written) (h : TurnsMatrix m
       passed : (ofNormalForm w (length before) ≡ Passed) × (l .0 ≡ length w)
       passed = passed-of-answer (ofNormalForm w (length before)) (length w) (sym (h .answer turned-entries w p) ∙ e)
 
-      pub turned-short : length w ≤ 80
+      pub turned-short : length w ≤ mostOfForm
       turned-short =
-          leb-true (length w) 80
-          (asks-passed (leb (length w) 80) NormalFormTooLong (first-no-head (question12 (length w)) (question14 80 (length before) ∷ []) (passed .0)))
+          leb-true (length w) mostOfForm
+          (asks-passed (leb (length w) mostOfForm) NormalFormTooLong (first-no-head (question12 (length w)) (question14 mostOfForm (length before) ∷ []) (passed .0)))
 
       pub turned-length : l .0 ≡ length w
       turned-length = passed .1

@@ -8,6 +8,7 @@ use native.Mathlib.Omega.{arith}
 use lib.Dec.{leb}
 use lib.ListN.{length, drop, length-drop}
 use borrow.Author.Tests.{le-leb, lt-leb}
+use Rattle.limits.specs.Limits.{mostOfForm}
 use Rattle.words.specs.Word.{Word}
 use Rattle.words.specs.Bytes.{bytes}
 use Rattle.words.specs.Questions.{asks, firstNo}
@@ -22,7 +23,7 @@ use Rattle.words.specs.declared.Written.the-variants.{Refused as Written·Refus
 use Rattle.words.proofs.Bytes.{length-bytes}
 use Rattle.unimodular.specs.Matrix.{Matrix, NormalFormOf}
 use Rattle.matrices.specs.Questions.{ofEntries}
-use Rattle.matrices.specs.Peeling.{Peeled, ofLength}
+use Rattle.matrices.specs.Spelling.{formRoom, Spelled, ofLength}
 use Rattle.matrices.specs.Calls.{TurnsMatrix}
 
 -- ---- the two questions
@@ -31,17 +32,17 @@ byTests : Bool → Bool → Asked
 byTests s t = firstNo (asks s NormalFormTooLong ∷ asks t OutputTooShort ∷ [])
 
 module _ (letters room : ℕ) where
-  pub letters-too-many : 80 < letters → ofLength letters room ≡ Refused NormalFormTooLong
+  pub letters-too-many : mostOfForm < letters → ofLength letters room ≡ Refused NormalFormTooLong
   unfolding byTests
-  letters-too-many h = ap (λ (t : Bool). byTests t (leb 80 room)) (lt-leb letters 80 h)
+  letters-too-many h = ap (λ (t : Bool). byTests t (leb mostOfForm room)) (lt-leb letters mostOfForm h)
 
-  pub room-too-small : letters ≤ 80 → room < 80 → ofLength letters room ≡ Refused OutputTooShort
+  pub room-too-small : letters ≤ mostOfForm → room < mostOfForm → ofLength letters room ≡ Refused OutputTooShort
   unfolding byTests
-  room-too-small h k = λ i. byTests (le-leb letters 80 h i) (lt-leb 80 room k i)
+  room-too-small h k = λ i. byTests (le-leb letters mostOfForm h i) (lt-leb mostOfForm room k i)
 
-  pub letters-and-room : letters ≤ 80 → 80 ≤ room → ofLength letters room ≡ Passed
+  pub letters-and-room : letters ≤ mostOfForm → mostOfForm ≤ room → ofLength letters room ≡ Passed
   unfolding byTests
-  letters-and-room h k = λ i. byTests (le-leb letters 80 h i) (le-leb 80 room k i)
+  letters-and-room h k = λ i. byTests (le-leb letters mostOfForm h i) (le-leb mostOfForm room k i)
 
 -- ---- the call
 
@@ -62,7 +63,7 @@ turns-refused m before {refusal} e = record {
     refused-not-passed f = let z : _≡_ {A = ℕ} 0 1 = cc in omega arith
 
 -- what stands in `form` from `at` on is written
-module _ (m : Matrix) (before form : List ℕ) (at : ℕ) (long : length form ≡ 82) (h : Peeled m form at) {r : Written} {after : List ℕ}
+module _ (m : Matrix) (before form : List ℕ) (at : ℕ) (long : length form ≡ formRoom) (h : Spelled m form at) {r : Written} {after : List ℕ}
     (answers : r ≡ lengthOr (ofLength (length (drop at form)) (length before)) (length (drop at form)))
     (writes : after ≡ written (ofLength (length (drop at form)) (length before)) (drop at form) before) where
   -- the word stands there, or it is refused either way
@@ -76,7 +77,7 @@ module _ (m : Matrix) (before form : List ℕ) (at : ℕ) (long : length form �
 
       stands : 2 ≤ at → f (ofLength (length (drop at form)) room) (drop at form) ≡ f (ofLength (length w) room) (bytes w)
       stands l =
-          let e : bytes w ≡ drop at form = h .spelled l w p in
+          let e : bytes w ≡ drop at form = h .letters l w p in
           ap (λ (s : List ℕ). f (ofLength (length s) room) s) (sym e) ∙ ap (λ (n : ℕ). f (ofLength n room) (bytes w)) (length-bytes w)
 
       refused : at < 2 → f (ofLength (length (drop at form)) room) (drop at form) ≡ f (ofLength (length w) room) (bytes w)

@@ -2,4 +2,4 @@ pub mod Entries
 pub mod Questions
 pub mod Calls
 pub mod Forming
-pub mod Peeling
+pub mod Spelling

@@ -5,6 +5,7 @@ use Prim.Native.Nat.{ℕ}
 use lib.Dec.{leb, eqb}
 use lib.IntN.{ℤ, pos, negsuc, natAbs}
 use lib.ListN.{length}
+use Rattle.limits.specs.Limits.{mostOfForm}
 use Rattle.unimodular.specs.Matrix.{Matrix, determinant, signed, matrixOf}
 use Rattle.words.specs.Word.{Word, nf}
 use Rattle.words.specs.Bytes.{pick, word}
@@ -12,9 +13,12 @@ use Rattle.words.specs.Questions.{asks, firstNo, question8, question10, questio
 use Rattle.words.specs.declared.Refusal.the-variants.{EntryTooLarge, DeterminantNotOne, MatrixTooLarge}
 use Rattle.words.specs.declared.Asked.{Asked}
 
--- an entry from −2147483647 to 2147483647
+abbrev pub largestEntry : ℕ
+largestEntry = 2147483647
+
+-- an entry in question 5's range
 abbrev pub inRange : ℤ → Bool
-inRange z = leb (natAbs z) 2147483647
+inRange z = leb (natAbs z) largestEntry
 
 -- 5: "Is each entry from −2147483647 to 2147483647? Place: the first that isn't (0 to 3)."
 abbrev pub question5 : Matrix → Asked
@@ -45,4 +49,4 @@ ofEntries m = firstNo (question5 m ∷ question6 m ∷ [])
 
 -- .. and then of its normal form w and of the room for it
 abbrev pub ofNormalForm : Word → ℕ → Asked
-ofNormalForm w room = firstNo (question12 (length w) ∷ question14 80 room ∷ [])
+ofNormalForm w room = firstNo (question12 (length w) ∷ question14 mostOfForm room ∷ [])

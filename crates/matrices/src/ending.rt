@@ -3,7 +3,7 @@ use crate::Matrix;
 ghost use mathlib.Core.Path.{_≡_};
 ghost use Prim.Native.Nat.{_≤_, _^_};
 ghost use lib.IntN.{natAbs};
-ghost use Rattle.unimodular.proofs.Peeling.{size, ending as endingOf, isUnit, isZero, sameWay, atLeast, columnsSameWay, firstColumnLarger};
+ghost use Rattle.unimodular.proofs.Descent.{size, ending as endingOf, isUnit, isZero, signsAgree, atLeast, columnsAgree, firstColumnLarger};
 ghost use Rattle.matrices.specs.Entries.{matrix};
 
 fn is_zero(x: i64) -> bool
@@ -19,8 +19,8 @@ fn is_zero(x: i64) -> bool
 }
 
 // Neither is negative, or neither is positive.
-fn same_way(x: i64, y: i64) -> bool
-    ensures { λ r. ⌜ r ≡ sameWay x y ⌝ }
+fn signs_agree(x: i64, y: i64) -> bool
+    ensures { λ r. ⌜ r ≡ signsAgree x y ⌝ }
 {
     if x < 0 {
         if 0 < y {
@@ -65,11 +65,12 @@ fn is_unit(m: Matrix) -> bool
     false
 }
 
-fn columns_same_way(m: Matrix) -> bool
-    ensures { λ r. ⌜ r ≡ columnsSameWay (matrix m) ⌝ }
+// In each row.
+fn columns_agree(m: Matrix) -> bool
+    ensures { λ r. ⌜ r ≡ columnsAgree (matrix m) ⌝ }
 {
-    if same_way(m.a, m.b) {
-        return same_way(m.c, m.d);
+    if signs_agree(m.a, m.b) {
+        return signs_agree(m.c, m.d);
     }
     false
 }
@@ -91,7 +92,7 @@ pub(crate) fn ending(m: Matrix) -> u8
     if is_unit(m) {
         return 0;
     }
-    if columns_same_way(m) {
+    if columns_agree(m) {
         return 1;
     }
     if first_column_larger(m) {

@@ -3,15 +3,17 @@ use crate::Matrix;
 use crate::Turned;
 use crate::questions;
 use crate::sign;
+use limits::FORM_ROOM;
 use words::Asked;
 use words::Refusal;
 ghost use mathlib.Core.Path.{_≡_};
 ghost use Prim.Native.Nat.{_≤_, _<_, _^_};
 ghost use lib.ListN.{length, getD};
+ghost use Rattle.limits.specs.Limits.{mostOfForm};
 ghost use Rattle.words.specs.Word.{Normal};
 ghost use Rattle.words.specs.Bytes.{letter, word as wordOf};
 ghost use Rattle.unimodular.specs.Matrix.{times, matrixOfLetter, matrixOf, signed};
-ghost use Rattle.unimodular.proofs.Peeling.{size};
+ghost use Rattle.unimodular.proofs.Descent.{size};
 ghost use Rattle.matrices.specs.Entries.{matrix};
 ghost use Rattle.matrices.specs.Calls.{matrixOr};
 ghost use Rattle.matrices.specs.Forming.{ofForm};
@@ -39,7 +41,7 @@ fn times_letter(m: Matrix, byte: u8) -> Matrix
 // word that is not reduced.
 fn product(form: &[u8]) -> Matrix
     requires { ⌜ Normal (wordOf (now form)) ⌝ }
-    requires { ⌜ length (now form) ≤ 80 ⌝ }
+    requires { ⌜ length (now form) ≤ mostOfForm ⌝ }
     ensures { λ r. ⌜ matrix r ≡ matrixOf (wordOf (now (form .entry))) ⌝ }
 {
     let mut m = Matrix {
@@ -61,7 +63,7 @@ pub(crate) fn of_normal_form(form: &[u8]) -> Turned
     requires { ⌜ Normal (wordOf (now form)) ⌝ }
     ensures { λ r. ⌜ r ≡ matrixOr (ofForm (wordOf (now (form .entry)))) (signed (matrixOf (wordOf (now (form .entry))))) ⌝ }
 {
-    if 80 < form.len() {
+    if FORM_ROOM < form.len() {
         return Turned::Refused(Refusal::NormalFormTooLong);
     }
     let m = sign::with_sign(product(form));

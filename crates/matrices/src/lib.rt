@@ -2,12 +2,14 @@
 // normal form. Both calls take any input whatever.
 mod ending;
 mod forming;
-mod peeling;
 mod questions;
 mod sign;
+mod spelling;
 mod times_r;
 mod times_s;
 
+use limits::FORM_ROOM;
+use limits::WORD_LETTERS;
 use words::Asked;
 use words::Letters;
 use words::Refusal;
@@ -20,7 +22,7 @@ ghost use Rattle.words.specs.Slices.{written};
 ghost use Rattle.words.specs.Calls.{lengthOr};
 ghost use Rattle.matrices.specs.Entries.{matrix};
 ghost use Rattle.matrices.specs.Calls.{TurnsWord, TurnsMatrix};
-ghost use Rattle.matrices.specs.Peeling.{ofLength};
+ghost use Rattle.matrices.specs.Spelling.{formRoom, ofLength};
 
 // (a b; c d)
 pub struct Matrix {
@@ -36,17 +38,14 @@ pub enum Turned {
     Refused(Refusal),
 }
 
-// The letters that question 8 lets pass.
-const LONGEST: usize = 4096;
+// Room for the longest normal form that question 12 lets pass and one part more, by which a longer one is known.
+const SPELLED_ROOM: usize = FORM_ROOM + 2;
 
-// Room for 80 letters and one part more, by which a longer normal form is known.
-const FORM: usize = 82;
-
-// The matrix of `word`. The reduction puts questions 8 and 10; its own question 14 is then answered yes, since `form` has 4,096 bytes.
+// The matrix of `word`. The reduction puts questions 8 and 10; its own question 14 is then answered yes, since `form` is as long as a word can be.
 pub fn word_to_matrix(word: &[u8]) -> Turned
     ensures { λ r. ⌜ TurnsWord (now (word .entry)) r ⌝ }
 {
-    let mut form = [0u8; LONGEST];
+    let mut form = [0u8; WORD_LETTERS];
     match words::reduce(word, &mut form) {
         Written::Refused(refusal) => Turned::Refused(refusal),
         Written::Length(letters) => {
@@ -58,15 +57,15 @@ pub fn word_to_matrix(word: &[u8]) -> Turned
 
 // Questions 12 and 14 of a normal form, which is then written to the front of `out`.
 fn write_out(form: &[u8], out: &mut [u8]) -> Written
-    requires { ⌜ length (now form) ≤ 82 ⌝ }
+    requires { ⌜ length (now form) ≤ formRoom ⌝ }
     ensures { λ r. ⌜ r ≡ lengthOr (ofLength (length (now (form .entry))) (length (now (out .entry)))) (length (now (form .entry))) ⌝ }
     ensures { λ _. ⌜ now (out .exit) ≡ written (ofLength (length (now (form .entry))) (length (now (out .entry)))) (now (form .entry)) (now (out .entry)) ⌝ }
 {
     let len = form.len();
-    if 80 < len {
+    if FORM_ROOM < len {
         return Written::Refused(Refusal::NormalFormTooLong);
     }
-    if out.len() < 80 {
+    if out.len() < FORM_ROOM {
         return Written::Refused(Refusal::OutputTooShort);
     }
     copy_at(form, out, 0);
@@ -80,8 +79,8 @@ pub fn matrix_to_word(m: Matrix, out: &mut [u8]) -> Written
     match questions::of_entries(m) {
         Asked::Refused(refusal) => Written::Refused(refusal),
         Asked::Passed => {
-            let mut form = [0u8; FORM];
-            let at = peeling::peel_all(m, &mut form);
+            let mut form = [0u8; SPELLED_ROOM];
+            let at = spelling::spell(m, &mut form);
             write_out(&form[at..], out)
         }
     }

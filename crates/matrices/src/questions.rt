@@ -8,14 +8,18 @@ ghost use Rattle.matrices.specs.Entries.{matrix};
 ghost use Rattle.matrices.specs.Questions.{inRange, question5, question6, ofEntries};
 ghost use Rattle.words.specs.declared.Asked.the-variants.{Passed};
 
-// Is x from -2147483647 to 2147483647?
+// Question 5: the largest entry, and the smallest.
+const LARGEST: i64 = 2147483647;
+
+const SMALLEST: i64 = -LARGEST;
+
 fn in_range(x: i64) -> bool
     ensures { λ r. ⌜ r ≡ inRange x ⌝ }
 {
-    if x < -2147483647 {
+    if x < SMALLEST {
         return false;
     }
-    if 2147483647 < x {
+    if LARGEST < x {
         return false;
     }
     true

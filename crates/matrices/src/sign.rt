@@ -3,7 +3,7 @@ use crate::Matrix;
 ghost use mathlib.Core.Path.{_≡_};
 ghost use Prim.Native.Nat.{_≤_, _^_};
 ghost use Rattle.unimodular.specs.Matrix.{negated as minus, signed};
-ghost use Rattle.unimodular.proofs.Peeling.{size};
+ghost use Rattle.unimodular.proofs.Descent.{size};
 ghost use Rattle.matrices.specs.Entries.{matrix};
 
 fn negated(m: Matrix) -> Matrix

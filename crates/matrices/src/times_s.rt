@@ -4,7 +4,7 @@ ghost use mathlib.Core.Path.{_≡_};
 ghost use Prim.Native.Nat.{_≤_, _^_};
 ghost use Rattle.words.specs.Word.{S};
 ghost use Rattle.unimodular.specs.Matrix.{times, matrixOfLetter};
-ghost use Rattle.unimodular.proofs.Peeling.{size};
+ghost use Rattle.unimodular.proofs.Descent.{size};
 ghost use Rattle.matrices.specs.Entries.{matrix};
 
 impl Matrix {

@@ -2,7 +2,7 @@
 --     no-first-column, ..    no column and no row is 0, and the columns are not equal
 --     diagonal, antidiagonal    rows of which one has the first entry larger and one the second have nothing else in them
 --     diagonal-unit          with nothing off the diagonal it is the unit matrix, up to sign
---     opposite-rows          if the entries of one row point opposite ways, then so do the other's
+--     opposite-rows          if the entries of one row have opposite signs, then so do the other's
 -- Assumes nothing.
 use mathlib.Core.Path.{_≡_, refl, sym, ap, _∙_}
 use mathlib.Core.Logic.{_⊎_, inl, inr}
@@ -15,8 +15,8 @@ use Rattle.unimodular.specs.Matrix.{Matrix, unit, determinant, UpToSign}
 use Rattle.unimodular.proofs.Integers.{num, minus, _⊕_, _⊗_, plus, less, value-is}
 use Rattle.unimodular.proofs.Integers.{over, under, Is, over-negℤ, under-negℤ, natAbs-*ℤ, natAbs-neighbours}
 use Rattle.unimodular.proofs.Product.{entries}
-use Rattle.unimodular.proofs.Rows.{sameWay, Opposite, same-of-test, test-of-same, same-turned, opposite-turned, opposite-negated}
-use Rattle.unimodular.proofs.Ending.{columnsSameWay, either-false, false-unless}
+use Rattle.unimodular.proofs.Rows.{signsAgree, Opposite, same-of-test, test-of-same, same-turned, opposite-turned, opposite-negated}
+use Rattle.unimodular.proofs.Ending.{columnsAgree, either-false, false-unless}
 
 -- ---- without signs
 
@@ -114,7 +114,7 @@ other-row p q (pos (suc k)) (negsuc l) e = inl (refl, refl)
 other-row p q (negsuc k) (pos l) e = inr (refl, refl)
 other-row p q (negsuc k) (negsuc l) e = absurd (omega arith)
 
-opposite-first : (x y z t : ℤ) → Unimodular x y z t → sameWay x y ≡ false → Opposite x y × Opposite z t
+opposite-first : (x y z t : ℤ) → Unimodular x y z t → signsAgree x y ≡ false → Opposite x y × Opposite z t
 opposite-first (pos zero) y z t e f = absurd (true≢false f)
 opposite-first (pos (suc p)) (pos n) z t e f = absurd (true≢false f)
 opposite-first (pos (suc p)) (negsuc q) z t e f = (inl (refl, refl), other-row p q z t (omega arith))
@@ -123,17 +123,17 @@ opposite-first (negsuc p) (pos (suc q)) z t e f =
     (inr (refl, refl), opposite-negated z t (other-row p q (negℤ z) (negℤ t) (rw (over-negℤ z, over-negℤ t, under-negℤ z, under-negℤ t) (omega arith))))
 opposite-first (negsuc p) (negsuc n) z t e f = absurd (true≢false f)
 
-pub opposite-rows : (m : Matrix) → determinant m ≡ pos 1 → columnsSameWay m ≡ false → Opposite (m .a) (m .b) × Opposite (m .c) (m .d)
-opposite-rows m e f = go (either-false (sameWay (m .a) (m .b)) (sameWay (m .c) (m .d)) f)
+pub opposite-rows : (m : Matrix) → determinant m ≡ pos 1 → columnsAgree m ≡ false → Opposite (m .a) (m .b) × Opposite (m .c) (m .d)
+opposite-rows m e f = go (either-false (signsAgree (m .a) (m .b)) (signsAgree (m .c) (m .d)) f)
   where
     -- the matrix turned by half a turn has the same determinant
     half-turn : (x y z t : ℤ) → Unimodular x y z t → Unimodular t z y x
     half-turn x y z t h = omega arith
 
-    turned : (x y : ℤ) → sameWay x y ≡ false → sameWay y x ≡ false
-    turned x y f = false-unless (sameWay y x) (λ s. true≢false (sym (test-of-same x y (same-turned y x (same-of-test y x s))) ∙ f))
+    turned : (x y : ℤ) → signsAgree x y ≡ false → signsAgree y x ≡ false
+    turned x y f = false-unless (signsAgree y x) (λ s. true≢false (sym (test-of-same x y (same-turned y x (same-of-test y x s))) ∙ f))
 
-    go : (sameWay (m .a) (m .b) ≡ false) ⊎ (sameWay (m .c) (m .d) ≡ false) → Opposite (m .a) (m .b) × Opposite (m .c) (m .d)
+    go : (signsAgree (m .a) (m .b) ≡ false) ⊎ (signsAgree (m .c) (m .d) ≡ false) → Opposite (m .a) (m .b) × Opposite (m .c) (m .d)
     go (inl k) = opposite-first (m .a) (m .b) (m .c) (m .d) (unimodular m e) k
     go (inr k) =
         let h = opposite-first (m .d) (m .c) (m .b) (m .a) (half-turn (m .a) (m .b) (m .c) (m .d) (unimodular m e)) (turned (m .c) (m .d) k) in

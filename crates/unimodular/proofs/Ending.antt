@@ -1,7 +1,7 @@
 -- The tests on a matrix's entries that say what its word ends with: 0 nothing, 1 R, 2 S, 3 SS. That they say so is proved in Shape and LastPart.
 --     ending                 what the tests say
 --     ending-is-..           its value in each of the four cases
---     ..-of-test, test-of-.. what each test says of the absolute values and ways
+--     ..-of-test, test-of-.. what each test says of the absolute values and signs
 -- Assumes nothing.
 use mathlib.Core.Path.{_≡_, refl, ap, _∙_}
 use mathlib.Core.Logic.{_⊎_, inl, inr}
@@ -10,15 +10,16 @@ use Prim.Native.Nat.{ℕ, _≤_}
 use lib.IntN.{natAbs}
 use Rattle.words.specs.Bytes.{pick}
 use Rattle.unimodular.specs.Matrix.{Matrix, UpToSign}
-use Rattle.unimodular.proofs.Rows.{isZero, sameWay, atLeast, Same, isZero-negated, sameWay-negated, atLeast-negated}
+use Rattle.unimodular.proofs.Rows.{isZero, signsAgree, atLeast, Same, isZero-negated, signsAgree-negated, atLeast-negated}
 use Rattle.unimodular.proofs.Rows.{zero-of-test, test-of-zero, same-of-test, test-of-same, le-of-test, test-of-le}
 
 -- With determinant 1 nothing off the diagonal leaves the unit matrix up to sign.
 abbrev pub isUnit : Matrix → Bool
 isUnit m = isZero (m .b) && isZero (m .c)
 
-abbrev pub columnsSameWay : Matrix → Bool
-columnsSameWay m = sameWay (m .a) (m .b) && sameWay (m .c) (m .d)
+-- the signs of the two columns, in each row
+abbrev pub columnsAgree : Matrix → Bool
+columnsAgree m = signsAgree (m .a) (m .b) && signsAgree (m .c) (m .d)
 
 abbrev pub firstColumnLarger : Matrix → Bool
 firstColumnLarger m = atLeast (m .a) (m .b) && atLeast (m .c) (m .d)
@@ -27,22 +28,22 @@ abbrev pub endingBy : Bool → Bool → Bool → ℕ
 endingBy nothing same first = pick nothing 0 (pick same 1 (pick first 2 3))
 
 unfoldable pub ending : Matrix → ℕ
-ending m = endingBy (isUnit m) (columnsSameWay m) (firstColumnLarger m)
+ending m = endingBy (isUnit m) (columnsAgree m) (firstColumnLarger m)
 
 module _ (m : Matrix) where
   pub ending-is-nothing : isUnit m ≡ true → ending m ≡ 0
   unfolding ending
-  ending-is-nothing u = λ i. endingBy (u i) (columnsSameWay m) (firstColumnLarger m)
+  ending-is-nothing u = λ i. endingBy (u i) (columnsAgree m) (firstColumnLarger m)
 
-  pub ending-is-r : isUnit m ≡ false → columnsSameWay m ≡ true → ending m ≡ 1
+  pub ending-is-r : isUnit m ≡ false → columnsAgree m ≡ true → ending m ≡ 1
   unfolding ending
   ending-is-r u s = λ i. endingBy (u i) (s i) (firstColumnLarger m)
 
-  pub ending-is-s : isUnit m ≡ false → columnsSameWay m ≡ false → firstColumnLarger m ≡ true → ending m ≡ 2
+  pub ending-is-s : isUnit m ≡ false → columnsAgree m ≡ false → firstColumnLarger m ≡ true → ending m ≡ 2
   unfolding ending
   ending-is-s u s f = λ i. endingBy (u i) (s i) (f i)
 
-  pub ending-is-ss : isUnit m ≡ false → columnsSameWay m ≡ false → firstColumnLarger m ≡ false → ending m ≡ 3
+  pub ending-is-ss : isUnit m ≡ false → columnsAgree m ≡ false → firstColumnLarger m ≡ false → ending m ≡ 3
   unfolding ending
   ending-is-ss u s f = λ i. endingBy (u i) (s i) (f i)
 
@@ -51,7 +52,7 @@ unfolding ending
 ending-sign (inl e) = ap ending e
 ending-sign {m} {n} (inr e) =
     ap ending e
-    ∙ (λ i. endingBy (isZero-negated (n .b) i && isZero-negated (n .c) i) (sameWay-negated (n .a) (n .b) i && sameWay-negated (n .c) (n .d) i)
+    ∙ (λ i. endingBy (isZero-negated (n .b) i && isZero-negated (n .c) i) (signsAgree-negated (n .a) (n .b) i && signsAgree-negated (n .c) (n .d) i)
     (atLeast-negated (n .a) (n .b) i && atLeast-negated (n .c) (n .d) i))
 
 -- ---- what the tests say
@@ -83,14 +84,14 @@ module _ (m : Matrix) where
   pub test-of-unit : natAbs (m .b) ≡ 0 → natAbs (m .c) ≡ 0 → isUnit m ≡ true
   test-of-unit p q = and-both (isZero (m .b)) (isZero (m .c)) (test-of-zero (m .b) p) (test-of-zero (m .c) q)
 
-  pub same-rows-of-test : columnsSameWay m ≡ true → Same (m .a) (m .b) × Same (m .c) (m .d)
+  pub same-rows-of-test : columnsAgree m ≡ true → Same (m .a) (m .b) × Same (m .c) (m .d)
   same-rows-of-test t = (
-    same-of-test (m .a) (m .b) (and-left (sameWay (m .a) (m .b)) (sameWay (m .c) (m .d)) t),
-    same-of-test (m .c) (m .d) (and-right (sameWay (m .a) (m .b)) (sameWay (m .c) (m .d)) t),
+    same-of-test (m .a) (m .b) (and-left (signsAgree (m .a) (m .b)) (signsAgree (m .c) (m .d)) t),
+    same-of-test (m .c) (m .d) (and-right (signsAgree (m .a) (m .b)) (signsAgree (m .c) (m .d)) t),
   )
 
-  pub test-of-same-rows : Same (m .a) (m .b) → Same (m .c) (m .d) → columnsSameWay m ≡ true
-  test-of-same-rows p q = and-both (sameWay (m .a) (m .b)) (sameWay (m .c) (m .d)) (test-of-same (m .a) (m .b) p) (test-of-same (m .c) (m .d) q)
+  pub test-of-same-rows : Same (m .a) (m .b) → Same (m .c) (m .d) → columnsAgree m ≡ true
+  test-of-same-rows p q = and-both (signsAgree (m .a) (m .b)) (signsAgree (m .c) (m .d)) (test-of-same (m .a) (m .b) p) (test-of-same (m .c) (m .d) q)
 
   pub larger-of-test : firstColumnLarger m ≡ true → (natAbs (m .b) ≤ natAbs (m .a)) × (natAbs (m .d) ≤ natAbs (m .c))
   larger-of-test t = (

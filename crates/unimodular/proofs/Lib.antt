@@ -6,5 +6,5 @@ pub mod Determinant
 pub mod Shape
 pub mod LastPart
 pub mod Faithful
-pub mod Peeling
+pub mod Descent
 pub mod Bound

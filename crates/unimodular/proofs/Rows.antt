@@ -1,6 +1,6 @@
--- Two numbers side by side, as the columns of a matrix show them in one row: they point the same way, or opposite ways. A number that
--- is 0 points both ways. Under the columns' sum and the sign these change as the absolute values say.
---     sameWay, atLeast, isZero      the tests
+-- Two numbers side by side, as the columns of a matrix show them in one row: their signs agree, or are opposite. The number 0
+-- goes with either sign. Under the columns' sum and the sign these change as the absolute values say.
+--     signsAgree, atLeast, isZero   the tests
 --     Same, Opposite                what they say, in natural numbers
 -- Assumes nothing.
 use mathlib.Core.Path.{_≡_, refl, sym, ap₂, _∙_}
@@ -30,8 +30,8 @@ positive (pos (suc n)) = true
 positive (negsuc n) = false
 
 -- neither is negative, or neither is positive
-abbrev pub sameWay : ℤ → ℤ → Bool
-sameWay x y = pick (negative x) (not (positive y)) (pick (positive x) (not (negative y)) true)
+abbrev pub signsAgree : ℤ → ℤ → Bool
+signsAgree x y = pick (negative x) (not (positive y)) (pick (positive x) (not (negative y)) true)
 
 -- the first is at least the second, without their signs
 abbrev pub atLeast : ℤ → ℤ → Bool
@@ -55,7 +55,7 @@ test-of-zero (pos zero) e = refl
 test-of-zero (pos (suc n)) e = absurd (omega arith)
 test-of-zero (negsuc n) e = absurd (omega arith)
 
-pub same-of-test : (x y : ℤ) → sameWay x y ≡ true → Same x y
+pub same-of-test : (x y : ℤ) → signsAgree x y ≡ true → Same x y
 same-of-test (pos zero) (pos n) t = inl (refl, refl)
 same-of-test (pos zero) (negsuc n) t = inr (refl, refl)
 same-of-test (pos (suc m)) (pos n) t = inl (refl, refl)
@@ -64,7 +64,7 @@ same-of-test (negsuc m) (pos zero) t = inr (refl, refl)
 same-of-test (negsuc m) (pos (suc n)) t = absurd (false≢true t)
 same-of-test (negsuc m) (negsuc n) t = inr (refl, refl)
 
-pub test-of-same : (x y : ℤ) → Same x y → sameWay x y ≡ true
+pub test-of-same : (x y : ℤ) → Same x y → signsAgree x y ≡ true
 test-of-same (pos zero) y h = refl
 test-of-same (pos (suc m)) (pos n) h = refl
 test-of-same (pos (suc m)) (negsuc n) (inl h) = absurd (omega arith)
@@ -93,19 +93,19 @@ isZero-negated (pos zero) = refl
 isZero-negated (pos (suc n)) = refl
 isZero-negated (negsuc n) = refl
 
-pub sameWay-negated : (x y : ℤ) → sameWay (negℤ x) (negℤ y) ≡ sameWay x y
-sameWay-negated (pos zero) y = refl
-sameWay-negated (pos (suc m)) (pos zero) = refl
-sameWay-negated (pos (suc m)) (pos (suc n)) = refl
-sameWay-negated (pos (suc m)) (negsuc n) = refl
-sameWay-negated (negsuc m) (pos zero) = refl
-sameWay-negated (negsuc m) (pos (suc n)) = refl
-sameWay-negated (negsuc m) (negsuc n) = refl
+pub signsAgree-negated : (x y : ℤ) → signsAgree (negℤ x) (negℤ y) ≡ signsAgree x y
+signsAgree-negated (pos zero) y = refl
+signsAgree-negated (pos (suc m)) (pos zero) = refl
+signsAgree-negated (pos (suc m)) (pos (suc n)) = refl
+signsAgree-negated (pos (suc m)) (negsuc n) = refl
+signsAgree-negated (negsuc m) (pos zero) = refl
+signsAgree-negated (negsuc m) (pos (suc n)) = refl
+signsAgree-negated (negsuc m) (negsuc n) = refl
 
 pub atLeast-negated : (x y : ℤ) → atLeast (negℤ x) (negℤ y) ≡ atLeast x y
 atLeast-negated x y = ap₂ leb (natAbs-negℤ y) (natAbs-negℤ x)
 
--- ---- which way
+-- ---- which sign
 
 pub same-of-zero : (x y : ℤ) → natAbs y ≡ 0 → Same x y
 same-of-zero (pos n) y e = inl (refl, omega (arith, natAbs-parts y))
@@ -123,15 +123,15 @@ pub opposite-turned : (x y : ℤ) → Opposite x y → Opposite y x
 opposite-turned x y (inl h) = inr (h .1, h .0)
 opposite-turned x y (inr h) = inl (h .1, h .0)
 
--- both ways at once: one of the two is 0
-pub both-ways : (x y : ℤ) → Same x y → Opposite x y → (natAbs x ≡ 0) ⊎ (natAbs y ≡ 0)
-both-ways x y (inl h) (inl k) = inr (omega (arith, natAbs-parts y))
-both-ways x y (inl h) (inr k) = inl (omega (arith, natAbs-parts x))
-both-ways x y (inr h) (inl k) = inl (omega (arith, natAbs-parts x))
-both-ways x y (inr h) (inr k) = inr (omega (arith, natAbs-parts y))
+-- both at once: one of the two is 0
+pub both-signs : (x y : ℤ) → Same x y → Opposite x y → (natAbs x ≡ 0) ⊎ (natAbs y ≡ 0)
+both-signs x y (inl h) (inl k) = inr (omega (arith, natAbs-parts y))
+both-signs x y (inl h) (inr k) = inl (omega (arith, natAbs-parts x))
+both-signs x y (inr h) (inl k) = inl (omega (arith, natAbs-parts x))
+both-signs x y (inr h) (inr k) = inr (omega (arith, natAbs-parts y))
 
-pub both-ways-smaller : (x y : ℤ) → Same x y → Opposite x y → natAbs y ≤ natAbs x → natAbs y ≡ 0
-both-ways-smaller x y p q l = go (both-ways x y p q)
+pub both-signs-smaller : (x y : ℤ) → Same x y → Opposite x y → natAbs y ≤ natAbs x → natAbs y ≡ 0
+both-signs-smaller x y p q l = go (both-signs x y p q)
   where
     go : (natAbs x ≡ 0) ⊎ (natAbs y ≡ 0) → natAbs y ≡ 0
     go (inl z) = omega arith

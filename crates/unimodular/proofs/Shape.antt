@@ -16,14 +16,14 @@ use Rattle.unimodular.specs.Matrix.{Matrix, times, determinant, matrixOf
 use Rattle.unimodular.proofs.Integers.{natAbs-negℤ}
 use Rattle.unimodular.proofs.Product.{times-r, times-s, times-ss}
 use Rattle.unimodular.proofs.Rows.{atLeast, Same, Opposite, less-of-test, same-of-zero, opposite-of-zero, same-turned, opposite-turned}
-use Rattle.unimodular.proofs.Rows.{both-ways, both-ways-smaller, same-r, opposite-r, opposite-s, opposite-ss, natAbs-same}
-use Rattle.unimodular.proofs.Ending.{isUnit, columnsSameWay, firstColumnLarger, either-false, false-unless}
+use Rattle.unimodular.proofs.Rows.{both-signs, both-signs-smaller, same-r, opposite-r, opposite-s, opposite-ss, natAbs-same}
+use Rattle.unimodular.proofs.Ending.{isUnit, columnsAgree, firstColumnLarger, either-false, false-unless}
 use Rattle.unimodular.proofs.Ending.{ending, ending-is-nothing, ending-is-r, ending-is-s, ending-is-ss}
 use Rattle.unimodular.proofs.Ending.{unit-of-test, test-of-unit, same-rows-of-test, test-of-same-rows, larger-of-test, test-of-larger}
 use Rattle.unimodular.proofs.Determinant.{no-first-column, no-second-column, no-first-row, no-second-row, no-equal-columns}
 use Rattle.unimodular.proofs.Determinant.{diagonal, antidiagonal, opposite-rows}
 
--- Nothing off the diagonal; or rows that point the same way, which an R leaves; or rows that point opposite ways, with the larger column first,
+-- Nothing off the diagonal; or rows whose signs agree, which an R leaves; or rows of opposite signs, with the larger column first,
 -- which an S leaves, or second, which an SS leaves.
 pub data Shape (m : Matrix) : ℕ → Type 0 where
   nothing : natAbs (m .b) ≡ 0 → natAbs (m .c) ≡ 0 → Shape m 0
@@ -37,27 +37,27 @@ module _ (m : Matrix) (e : determinant m ≡ pos 1) where
   ending-of-shape (same p q n) =
       ending-is-r m (false-unless (isUnit m) (λ t. n (unit-of-test m t .0) (unit-of-test m t .1))) (test-of-same-rows m p q)
   ending-of-shape (first p q k l) =
-      ending-is-s m (false-unless (isUnit m) not-unit) (false-unless (columnsSameWay m) not-same) (test-of-larger m k l)
+      ending-is-s m (false-unless (isUnit m) not-unit) (false-unless (columnsAgree m) not-same) (test-of-larger m k l)
     where
       not-unit : isUnit m ≡ true → ⊥
       not-unit t = let z = unit-of-test m t in no-second-column m e (z .0) (omega arith)
 
-      not-same : columnsSameWay m ≡ true → ⊥
+      not-same : columnsAgree m ≡ true → ⊥
       not-same t =
           let s = same-rows-of-test m t in
-          no-second-column m e (both-ways-smaller (m .a) (m .b) (s .0) p k) (both-ways-smaller (m .c) (m .d) (s .1) q l)
+          no-second-column m e (both-signs-smaller (m .a) (m .b) (s .0) p k) (both-signs-smaller (m .c) (m .d) (s .1) q l)
   ending-of-shape (second p q k l) =
-      ending-is-ss m (false-unless (isUnit m) not-unit) (false-unless (columnsSameWay m) not-same) (false-unless (firstColumnLarger m) not-larger)
+      ending-is-ss m (false-unless (isUnit m) not-unit) (false-unless (columnsAgree m) not-same) (false-unless (firstColumnLarger m) not-larger)
     where
       not-unit : isUnit m ≡ true → ⊥
       not-unit t = let z = unit-of-test m t in no-first-column m e (omega arith) (z .1)
 
-      not-same : columnsSameWay m ≡ true → ⊥
+      not-same : columnsAgree m ≡ true → ⊥
       not-same t =
           let s = same-rows-of-test m t in
           no-first-column m e
-          (both-ways-smaller (m .b) (m .a) (same-turned (m .a) (m .b) (s .0)) (opposite-turned (m .a) (m .b) p) k)
-          (both-ways-smaller (m .d) (m .c) (same-turned (m .c) (m .d) (s .1)) (opposite-turned (m .c) (m .d) q) l)
+          (both-signs-smaller (m .b) (m .a) (same-turned (m .a) (m .b) (s .0)) (opposite-turned (m .a) (m .b) p) k)
+          (both-signs-smaller (m .d) (m .c) (same-turned (m .c) (m .d) (s .1)) (opposite-turned (m .c) (m .d) q) l)
 
       not-larger : firstColumnLarger m ≡ true → ⊥
       not-larger t =
@@ -65,14 +65,14 @@ module _ (m : Matrix) (e : determinant m ≡ pos 1) where
           no-equal-columns m e (omega arith) (omega arith)
 
   -- the second column is the larger one where the first is not
-  second-larger : isUnit m ≡ false → columnsSameWay m ≡ false → firstColumnLarger m ≡ false →
+  second-larger : isUnit m ≡ false → columnsAgree m ≡ false → firstColumnLarger m ≡ false →
       (natAbs (m .a) ≤ natAbs (m .b)) × (natAbs (m .c) ≤ natAbs (m .d))
   second-larger u s f = go (either-false (atLeast (m .a) (m .b)) (atLeast (m .c) (m .d)) f)
     where
       unless : (x y : ℕ) → (y < x → ⊥) → x ≤ y
       unless x y f = elim (decLe x y) [ yes l ↦ l | no l ↦ absurd (f (omega arith)) ]
 
-      -- only b and c are not 0, so that the columns point the same way
+      -- only b and c are not 0, so that the columns' signs agree
       below : natAbs (m .a) < natAbs (m .b) → natAbs (m .d) < natAbs (m .c) → ⊥
       below k l =
           let z = antidiagonal m e k l in
@@ -91,7 +91,7 @@ module _ (m : Matrix) (e : determinant m ≡ pos 1) where
   pub shape-of : Shape m (ending m)
   shape-of = at-unit (isUnit m) refl
     where
-      at-larger : isUnit m ≡ false → columnsSameWay m ≡ false → (t : Bool) → firstColumnLarger m ≡ t → Shape m (ending m)
+      at-larger : isUnit m ≡ false → columnsAgree m ≡ false → (t : Bool) → firstColumnLarger m ≡ t → Shape m (ending m)
       at-larger u s true f =
           let o = opposite-rows m e s in
           let l = larger-of-test m f in
@@ -101,7 +101,7 @@ module _ (m : Matrix) (e : determinant m ≡ pos 1) where
           let l = second-larger u s f in
           rw (ending-is-ss m u s f) (second (o .0) (o .1) (l .0) (l .1))
 
-      at-same : isUnit m ≡ false → (t : Bool) → columnsSameWay m ≡ t → Shape m (ending m)
+      at-same : isUnit m ≡ false → (t : Bool) → columnsAgree m ≡ t → Shape m (ending m)
       at-same u true s =
           let r = same-rows-of-test m s in
           rw (ending-is-r m u s) (same (r .0) (r .1) (λ p q. true≢false (sym (test-of-unit m p q) ∙ u)))
@@ -109,7 +109,7 @@ module _ (m : Matrix) (e : determinant m ≡ pos 1) where
 
       at-unit : (t : Bool) → isUnit m ≡ t → Shape m (ending m)
       at-unit true u = rw (ending-is-nothing m u) (nothing (unit-of-test m u .0) (unit-of-test m u .1))
-      at-unit false u = at-same u (columnsSameWay m) refl
+      at-unit false u = at-same u (columnsAgree m) refl
 
 -- ---- a part more
 
@@ -151,7 +151,7 @@ shape-rr m e h k = go h (rw (times-r m) at k)
   where
     go : Shape m 1 → Shape (record { a = m .b; b = negℤ (m .a); c = m .d; d = negℤ (m .c) }) 1 → ⊥
     go (same p q n) (same p′ q′ n′) =
-        rows (both-ways (m .b) (negℤ (m .a)) p′ (opposite-r (m .a) (m .b) p)) (both-ways (m .d) (negℤ (m .c)) q′ (opposite-r (m .c) (m .d) q))
+        rows (both-signs (m .b) (negℤ (m .a)) p′ (opposite-r (m .a) (m .b) p)) (both-signs (m .d) (negℤ (m .c)) q′ (opposite-r (m .c) (m .d) q))
       where
         rows : (natAbs (m .b) ≡ 0) ⊎ (natAbs (negℤ (m .a)) ≡ 0) → (natAbs (m .d) ≡ 0) ⊎ (natAbs (negℤ (m .c)) ≡ 0) → ⊥
         rows (inl y) (inl t) = no-second-column m e y t

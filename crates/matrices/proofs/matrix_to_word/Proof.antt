@@ -1,4 +1,4 @@
--- The matrix is peeled into an array, and what stands there is written. Assumes nothing.
+-- The matrix is spelled in an array, and what stands there is written. Assumes nothing.
 use mathlib.Core.Path.{_≡_, refl, sym, ap, _∙_}
 use mathlib.Core.List.{List}
 use Prim.Native.Nat.{ℕ, _-_}
@@ -6,7 +6,9 @@ use lib.ListN.{length, take, drop, length-drop}
 use lib.Seq.{take-all}
 use Rattle.words.specs.Slices.{written}
 use Rattle.words.specs.Calls.{lengthOr}
-use Rattle.matrices.specs.Peeling.{ofLength}
+use Rattle.words.specs.declared.Asked.the-variants.{Passed}
+use Rattle.matrices.specs.Questions.{ofEntries}
+use Rattle.matrices.specs.Spelling.{formRoom, ofLength}
 use Rattle.matrices.specs.Entries.{matrix}
 use Rattle.matrices.proofs.Range.{small-of-passed, passed-in-range, passed-determinant}
 use Rattle.matrices.proofs.Writing.{turns-refused, turns-written}
@@ -14,6 +16,12 @@ use native.Mathlib.Omega.{arith}
 use borrow.Author.Needs.{needs}
 use Rattle.matrices.proofs.matrix_to_word.Statement.{statement}
 use Rattle.matrices.proofs.matrix_to_word.Tie as tie
+
+abbrev start : tie.After-enum-told → tie.Start
+start c = c .before .before .before .before
+
+entries-passed : (c : tie.After-enum-told) → ofEntries (matrix (start c .args .m)) ≡ Passed
+entries-passed c = sym (c .before .before .of-entries .ensures) ∙ c .enum-told .given .1
 
 of-entries-requires : tie.Need-of-entries-requires
 of-entries-requires c κs = search needs
@@ -24,13 +32,13 @@ enum-known-refusal c = search needs
 enum-told : tie.Need-enum-told
 enum-told c = search needs
 
-slice-aggregate-peel-all : tie.Need-slice-aggregate-peel-all
-slice-aggregate-peel-all c = search needs
+slice-aggregate-spell : tie.Need-slice-aggregate-spell
+slice-aggregate-spell c = search needs
 
-peel-all-requires : tie.Need-peel-all-requires
-peel-all-requires c κs =
-    let m = matrix (c .before .before .before .before .before .args .m) in
-    let e = sym (c .before .before .before .of-entries .ensures) ∙ c .before .enum-told .given .1 in
+spell-requires : tie.Need-spell-requires
+spell-requires c κs =
+    let m = matrix (start (c .before) .args .m) in
+    let e = entries-passed (c .before) in
     let s = small-of-passed m (passed-in-range m e) in
     (passed-determinant m e, (omega arith, refl))
 
@@ -56,16 +64,17 @@ same-length c = search needs
 
 returns-2 : tie.Need-returns-2
 returns-2 c =
-    let a = c .before .before .before .before .before .before .before .before .before .before .before .before .before .args in
-    let p = c .before .before .before .before .before .before .before .peel-all in
+    let p = c .before .before .before .before .before .before .before .spell in
+    let passed = c .before .before .before .before .before .before .before .before .before in
+    let a = start passed .args in
     let o = c .before .before .write-out .ensures in
     let form = p .last .1 .0 in
     let at = p .result in
-    let all : take (82 - at) (drop at form) ≡ drop at form = take-all (82 - at) (drop at form) (omega (arith, length-drop at form, p .kept .1 .0)) in
+    let all : take (formRoom - at) (drop at form) ≡ drop at form = take-all (formRoom - at) (drop at form) (omega (arith, length-drop at form, p .kept .1 .0)) in
     turns-written (matrix (a .m)) (a .out .now) form at (p .kept .1 .0) (p .ensures)
     (o .0 ∙ ap (λ (s : List ℕ). lengthOr (ofLength (length s) (length (a .out .now))) (length s)) all)
     (o .1 ∙ ap (λ (s : List ℕ). written (ofLength (length s) (length (a .out .now))) s (a .out .now)) all)
-    (sym (c .before .before .before .before .before .before .before .before .before .before .before .of-entries .ensures) ∙ c .before .before .before .before .before .before .before .before .before .enum-told .given .1)
+    (entries-passed passed)
 
 pub matrix-to-word-spec : {M : Type 1} → statement M
 matrix-to-word-spec =
@@ -74,8 +83,8 @@ matrix-to-word-spec =
     of-entries-requires
     enum-known-refusal
     enum-told
-    slice-aggregate-peel-all
-    peel-all-requires
+    slice-aggregate-spell
+    spell-requires
     sub-write-out
     part-write-out-start
     part-write-out-end

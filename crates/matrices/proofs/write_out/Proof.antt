@@ -7,7 +7,7 @@ use Rattle.words.specs.Slices.{written}
 use Rattle.words.specs.Calls.{lengthOr}
 use Rattle.words.specs.declared.Asked.{Asked}
 use Rattle.words.proofs.Slices.{pasted-front}
-use Rattle.matrices.specs.Peeling.{ofLength}
+use Rattle.matrices.specs.Spelling.{ofLength}
 use Rattle.matrices.proofs.Writing.{letters-too-many, room-too-small, letters-and-room}
 use borrow.Author.Needs.{needs}
 use native.Mathlib.Omega.{arith}
@@ -23,12 +23,12 @@ said form before e = (sym (ap (λ (q : Asked). lengthOr q (length form)) e), sym
 returns : tie.Need-returns
 returns c =
     let a = c .before .before .before .args in
-    said (a .form .now) (a .out .now) (letters-too-many (length (a .form .now)) (length (a .out .now)) (c .if1 .taken))
+    said (a .form .now) (a .out .now) (letters-too-many (length (a .form .now)) (length (a .out .now)) (omega (arith, c .if1 .taken)))
 
 returns-2 : tie.Need-returns-2
 returns-2 c =
     let a = c .before .before .before .before .args in
-    said (a .form .now) (a .out .now) (room-too-small (length (a .form .now)) (length (a .out .now)) (c .before .if1 .left) (c .if2 .taken))
+    said (a .form .now) (a .out .now) (room-too-small (length (a .form .now)) (length (a .out .now)) (omega (arith, c .before .if1 .left)) (omega (arith, c .before .if1 .left, c .if2 .taken)))
 
 copy-at-requires : tie.Need-copy-at-requires
 copy-at-requires c κs = search needs
@@ -42,7 +42,7 @@ same-length c = search needs
 returns-3 : tie.Need-returns-3
 returns-3 c =
     let a = c .before .before .before .before .before .before .before .before .args in
-    let s = said (a .form .now) (a .out .now) (letters-and-room (length (a .form .now)) (length (a .out .now)) (c .before .before .before .before .before .if1 .left) (c .before .before .before .before .if2 .left)) in
+    let s = said (a .form .now) (a .out .now) (letters-and-room (length (a .form .now)) (length (a .out .now)) (omega (arith, c .before .before .before .before .before .if1 .left)) (omega (arith, c .before .before .before .before .if2 .left))) in
     (s .0, pasted-front (c .before .before .copy-at .ensures) (omega arith) ∙ s .1)
 
 pub write-out-spec : {M : Type 1} → statement M

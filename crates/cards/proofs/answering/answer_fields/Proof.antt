@@ -11,7 +11,7 @@ abbrev start : tie.After-known-told → tie.Start
 start c = c .before .before .before .before .before .before .before .before
 
 bound-read : (c : tie.After-known-told)
-    → BoundStands (start c .args .card .now) (boundField (start c .args .map) (drop 1 (start c .args .card .now))) (c .before .n .given .0 .0) (c .before .n .given .0 .1 .0)
+    → BoundStands (start c .args .card .now) (boundField (start c .args .map) (drop 1 (start c .args .card .now))) (c .before .n .given .0 .0 .0) (c .before .n .given .0 .1 .0)
 bound-read c =
     let a = start c .args in
     bound-stands (a .card .now) (boundField (a .map) (drop 1 (a .card .now))) (c .before .before .before .bound .ensures) (c .before .n .given .1)

@@ -9,8 +9,13 @@ use Rattle.cards.proofs.CardFields.{letters-goal, entries-goal}
 use Rattle.cards.proofs.answering.answer_goal.Statement.{statement}
 use Rattle.cards.proofs.answering.answer_goal.Tie as tie
 
+-- the target is said by letters
 abbrev start : tie.After-known-told → tie.Start
 start c = c .before .before .before .before .before .before .before
+
+-- the same of a matrix
+abbrev begin : tie.After-known-told2 → tie.Start
+begin c = c .before .before .before .before .before .before .before
 
 -- The two places of a target by letters.
 places : (c : tie.After-known-told)
@@ -70,9 +75,9 @@ same-length-6 c = search needs
 
 returns-2 : tie.Need-returns-2
 returns-2 c =
-    let a = c .before .before .before .before .before .before .before .before .before .before .before .before .before .before .before .before .before .args in
+    let told = c .before .before .before .before .before .before .before .before .before .before in
     λ list target listed is.
-    rw (entries-goal (a .card .now) target is (c .before .before .before .before .before .before .before .before .before .before .before .goal2 .given .1)) (c .before .before .before .before .before .before .answer-matrix .ensures list listed)
+    rw (entries-goal (begin told .args .card .now) target is (told .before .goal2 .given .1)) (c .before .before .before .before .before .before .answer-matrix .ensures list listed)
 
 pub answer-goal-spec : {M : Type 1} → statement M
 answer-goal-spec =

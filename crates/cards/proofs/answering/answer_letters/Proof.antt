@@ -12,18 +12,35 @@ use borrow.Author.Needs.{needs}
 use Rattle.cards.proofs.answering.answer_letters.Statement.{statement}
 use Rattle.cards.proofs.answering.answer_letters.Tie as tie
 
-abbrev start : tie.After-total → tie.Start
-start c = c .before .before .before .before .before .before .before .before .before .before .before .before
+-- ---- the points that the needs look back to
 
+abbrev start : tie.After-flatten → tie.Start
+start c = c .before .before .before .before .before .before .before .before
+
+-- the list was not refused
 abbrev made : tie.After-total → tie.After-flatten
 made c = c .before .before .before .before
 
+abbrev total : tie.After-total → ℕ
+total c = c .total .given .0 .0 .0
+
+abbrev letters : tie.After-total → List ℕ
+letters c = made c .flatten .last .1 .1 .1 .0
+
+abbrev ends : tie.After-total → List ℕ
+ends c = made c .flatten .last .1 .1 .1 .1 .0
+
+abbrev judged : tie.After-judge → tie.After-total
+judged c = c .before .before .before .before .before .before .before .before
+
 -- the fronts that the list stands in are parts of the arrays
-room : (c : tie.After-total) → (c .total .given .0 .0 ≤ length (made c .flatten .last .1 .1 .1 .0)) × (start c .args .count ≤ length (made c .flatten .last .1 .1 .1 .1 .0))
+room : (c : tie.After-total) → (total c ≤ length (letters c)) × (start (made c) .args .count ≤ length (ends c))
 room c =
-    let a = start c .args in
+    let a = start (made c) .args in
     let f = made c .flatten in
-    fronts-fit (a .card .now) (a .start) (a .count) _ _ _ _ _ (f .ensures) (c .total .given .1) (start c .pre) (f .kept .1 .1 .1 .0) (f .kept .1 .1 .1 .1 .0)
+    fronts-fit (a .card .now) (a .start) (a .count) _ _ _ _ _ (f .ensures) (c .total .given .1) (start (made c) .pre) (f .kept .1 .1 .1 .0) (f .kept .1 .1 .1 .1 .0)
+
+-- ---- the needs
 
 slice-aggregate-flatten : tie.Need-slice-aggregate-flatten
 slice-aggregate-flatten c = search needs
@@ -40,17 +57,24 @@ enum-known-refusal c = search needs
 enum-known-total : tie.Need-enum-known-total
 enum-known-total c = search needs
 
+cast-len : tie.Need-cast-len
+cast-len c = search needs
+
 array-share-prefix-letters : tie.Need-array-share-prefix-letters
-array-share-prefix-letters c = room (c .before) .0
+array-share-prefix-letters c = room (c .before .before) .0
 
 slice-aggregate-judge : tie.Need-slice-aggregate-judge
-slice-aggregate-judge c = sym (length-take-le (c .before .before .total .given .0 .0) (c .before .before .before .before .before .before .flatten .last .1 .1 .1 .0) (room (c .before .before) .0))
+slice-aggregate-judge c =
+    let told = c .before .before .before in
+    sym (length-take-le (total told) (letters told) (room told .0))
 
 array-share-prefix-ends : tie.Need-array-share-prefix-ends
-array-share-prefix-ends c = room (c .before .before) .1
+array-share-prefix-ends c = room (c .before .before .before) .1
 
 slice-aggregate-judge-2 : tie.Need-slice-aggregate-judge-2
-slice-aggregate-judge-2 c = sym (length-take-le (c .before .before .before .before .before .before .before .before .before .before .before .before .before .before .before .args .count) (c .before .before .before .before .before .before .before .flatten .last .1 .1 .1 .1 .0) (room (c .before .before .before) .1))
+slice-aggregate-judge-2 c =
+    let told = c .before .before .before .before in
+    sym (length-take-le (start (made told) .args .count) (ends told) (room told .1))
 
 judge-requires : tie.Need-judge-requires
 judge-requires c κs = search needs
@@ -60,11 +84,12 @@ answered-requires c κs = search needs
 
 returns : tie.Need-returns
 returns c =
-    let a = c .before .before .before .before .before .before .before .before .before .before .before .before .before .args in
+    let f = c .before .before .before .before .before in
+    let a = start f .args in
     λ list listed.
     list-refused (a .n .0) list (a .target .now) (word (a .target .now))
     (record { first = a .first .now; second = a .second .now; witness = a .witness .now })
-    (flat-refused list _ _ _ _ _ (c .before .before .before .before .before .flatten .ensures list listed) (c .before .refusal .given .1) (a .target .now))
+    (flat-refused list _ _ _ _ _ (f .flatten .ensures list listed) (c .before .refusal .given .1) (a .target .now))
 
 same-length : tie.Need-same-length
 same-length c = search needs
@@ -77,9 +102,9 @@ same-length-3 c = search needs
 
 returns-2 : tie.Need-returns-2
 returns-2 c =
-    let told = c .before .before .before .before .before .before .before .before .before .before .before .before .before .before in
-    let a = start told .args in
     let j = c .before .before .before .before .before .before .before .judge in
+    let told = judged (c .before .before .before .before .before .before .before) in
+    let a = start (made told) .args in
     let before : Lent = record { first = a .first .now; second = a .second .now; witness = a .witness .now } in
     let after : Lent = record { first = j .last .1 .1 .1 .1 .0; second = j .last .1 .1 .1 .1 .1 .0; witness = j .last .1 .1 .1 .1 .1 .1 .0 } in
     λ list listed.
@@ -99,6 +124,7 @@ answer-letters-spec =
     flatten-requires
     enum-known-refusal
     enum-known-total
+    cast-len
     array-share-prefix-letters
     slice-aggregate-judge
     array-share-prefix-ends

@@ -1,4 +1,4 @@
--- `cards::reading::bound` meets its contract: without its bit the bound is 1,000, and the rest begins behind the first byte; with it `short_after` says whether the number is whole.
+-- `cards::reading::bound` meets its contract: without its bit the bound is the default, and the rest begins behind the first byte; with it `short_after` says whether the number is whole.
 -- Assumes nothing.
 use mathlib.Core.Path.{_≡_, refl, sym, _∙_}
 use mathlib.Core.Bool.{true, false}

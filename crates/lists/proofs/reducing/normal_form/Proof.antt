@@ -5,6 +5,7 @@ use Prim.Native.Nat.{ℕ, _+_, _-_, _≤_}
 use lib.ListN.{length, take, drop, length-drop}
 use lib.Seq.{slice, length-take-le}
 use borrow.Rule.Slice.PartMut.{putMid}
+use Rattle.limits.specs.Limits.{mostLetters}
 use Rattle.words.specs.Word.{nf}
 use Rattle.words.specs.Bytes.{word as wordOf, bytes as bytesOf}
 use Rattle.words.specs.declared.Letters.{Letters}
@@ -18,13 +19,13 @@ use Rattle.lists.proofs.reducing.normal_form.Statement.{statement}
 use Rattle.lists.proofs.reducing.normal_form.Tie as tie
 
 -- the length that an answer holds
-length-of : {n m : ℕ} {l : Letters} → n ≡ l .0 → Length l ≡ Length (record { 0 = m }) → n ≡ m
-length-of {n} {m} {l} e f =
+length-of : {m : ℕ} {l : Letters} → Length l ≡ Length (record { 0 = m }) → l .0 ≡ m
+length-of {m} {l} f =
     let same : l ≡ record { 0 = m } = cc in
-    e ∙ ap (λ (k : Letters). k .0) same
+    ap (λ (k : Letters). k .0) same
 
--- what stands behind a place has room for 4,096 letters
-room-behind : (out : List ℕ) (at : ℕ) → at + 4096 ≤ length out → 4096 ≤ length (take (length out - at) (drop at out))
+-- what stands behind a place has room for a generator's letters
+room-behind : (out : List ℕ) (at : ℕ) → at + mostLetters ≤ length out → mostLetters ≤ length (take (length out - at) (drop at out))
 room-behind out at h = omega (arith, length-take-le (length out - at) (drop at out) (omega (arith, length-drop at out)))
 
 sub-reduce : tie.Need-sub-reduce
@@ -51,9 +52,6 @@ reduce-requires c κs = search needs
 enum-known-letters : tie.Need-enum-known-letters
 enum-known-letters c = search needs
 
-wide-requires : tie.Need-wide-requires
-wide-requires c κs = search needs
-
 enum-told : tie.Need-enum-told
 enum-told c = search needs
 
@@ -62,20 +60,20 @@ same-length c = search needs
 
 returns : tie.Need-returns
 returns c =
-    let a = c .before .before .before .before .before .before .before .before .before .before .before .args in
-    let p = c .before .before .before .before .before .before .before .before .before .before .before .pre in
-    let m = c .before .before .before .before .before .before .reduce in
+    let a = c .before .before .before .before .before .before .before .before .before .before .args in
+    let p = c .before .before .before .before .before .before .before .before .before .before .pre in
+    let m = c .before .before .before .before .before .reduce in
     let is-slice = part-slice (a .bytes .now) (a .from) (a .end) (p .0) in
     let out = a .out .now in
     let room = room-behind out (a .at) (p .1 .1 .1 .1) in
     let form = nf (wordOf (slice (a .from) (a .end) (a .bytes .now))) in
-    let len : c .wide .result ≡ length form =
-    length-of (c .wide .ensures)
-    (sym (c .before .before .letters .given .1) ∙ form-length (a .bytes .now) (a .from) (a .end) _ (m .result) (m .last .1 .0) _ is-slice (p .1 .1 .0) (p .1 .0) (p .1 .1 .1 .0) room (m .ensures)) in (
+    let len : c .before .letters .given .0 .0 .0 ≡ length form =
+    length-of
+    (sym (c .before .letters .given .1) ∙ form-length (a .bytes .now) (a .from) (a .end) _ (m .result) (m .last .1 .0) _ is-slice (p .1 .1 .0) (p .1 .0) (p .1 .1 .1 .0) room (m .ensures)) in (
       len,
       ap (putMid (a .at) (length out - a .at) out)
           (form-written (a .bytes .now) (a .from) (a .end) _ (m .result) (m .last .1 .0) _ is-slice (p .1 .1 .0) (p .1 .0) (p .1 .1 .1 .0) room (m .ensures))
-          ∙ front-behind out (bytesOf form) (a .at) (c .wide .result) (omega arith) (len ∙ sym (length-bytes form)),
+          ∙ front-behind out (bytesOf form) (a .at) (c .before .letters .given .0 .0 .0) (omega arith) (len ∙ sym (length-bytes form)),
     )
 
 same-length-2 : tie.Need-same-length-2
@@ -103,7 +101,6 @@ normal-form-spec =
     part-reduce-end-2
     reduce-requires
     enum-known-letters
-    wide-requires
     enum-told
     same-length
     returns

@@ -7,7 +7,7 @@ use Rattle.words.specs.Bytes.{letter, word as wordOf}
 use Rattle.words.specs.declared.Asked.{Asked}
 use Rattle.words.proofs.Reduced.{reduced-of-normal}
 use Rattle.unimodular.specs.Matrix.{Matrix, matrixOf, signed}
-use Rattle.unimodular.proofs.Peeling.{size}
+use Rattle.unimodular.proofs.Descent.{size}
 use Rattle.unimodular.proofs.Bound.{size-reduced}
 use Rattle.matrices.specs.Entries.{matrix}
 use Rattle.matrices.specs.Calls.{matrixOr}
@@ -34,7 +34,7 @@ with-sign-requires c κs =
     let e = c .before .before .before in
     let w = e .args .form .now in
     subst (λ (m : Matrix). size m ≤ 2 ^ 44) (sym (c .product .ensures))
-    (le-trans (size-reduced (wordOf w) (reduced-of-normal (wordOf w) (e .pre)) (omega (arith, length-map w letter))) (omega arith))
+    (le-trans (size-reduced 40 (wordOf w) (reduced-of-normal (wordOf w) (e .pre)) (omega (arith, length-map w letter))) (omega arith))
 
 of-range-requires : tie.Need-of-range-requires
 of-range-requires c κs = search needs

@@ -1,11 +1,12 @@
 -- After i turns m is the matrix of the first i letters. Assumes nothing.
 use mathlib.Core.Path.{_≡_, refl, sym, ap, ap₂, subst, _∙_}
 use Prim.Native.Nat.{ℕ, _-_, _≤_, _^_}
+use native.Mathlib.Nat.{le-trans}
 use lib.ListN.{length, take, length-map}
 use lib.Seq.{take-all}
 use Rattle.words.specs.Bytes.{letter, word as wordOf}
 use Rattle.unimodular.specs.Matrix.{Matrix, times, matrixOfLetter, matrixOf}
-use Rattle.unimodular.proofs.Peeling.{size}
+use Rattle.unimodular.proofs.Descent.{size}
 use Rattle.unimodular.proofs.Bound.{prefix-bound}
 use Rattle.matrices.specs.Entries.{matrix}
 use Rattle.matrices.proofs.Forms.{product-more}
@@ -31,7 +32,7 @@ times-letter-requires c κs =
     let l = c .before .before .loop in
     let e = c .before .before .before .before in
     let w = e .args .form .now in
-    subst (λ (n : Matrix). size n ≤ 2 ^ 44) (sym (l .inv .1)) (prefix-bound (wordOf w) (e .pre .0) (omega (arith, length-map w letter)) (l .i))
+    subst (λ (n : Matrix). size n ≤ 2 ^ 44) (sym (l .inv .1)) (le-trans (prefix-bound 40 (wordOf w) (e .pre .0) (omega (arith, length-map w letter)) (l .i)) (omega arith))
 
 add-i : tie.Need-add-i Inv-loop μ-loop
 add-i c = search needs

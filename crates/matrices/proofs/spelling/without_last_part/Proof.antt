@@ -3,13 +3,13 @@ use mathlib.Core.Path.{sym, ap, _∙_}
 use Prim.Native.Nat.{ℕ}
 use Rattle.words.specs.Word.{S}
 use Rattle.unimodular.specs.Matrix.{Matrix, times, matrixOfLetter}
-use Rattle.unimodular.proofs.Peeling.{size, before, size-times-s}
+use Rattle.unimodular.proofs.Descent.{size, before, size-times-s}
 use Rattle.matrices.specs.Entries.{matrix}
 use Rattle.matrices.proofs.Parts.{before-ss}
 use native.Mathlib.Omega.{arith}
 use borrow.Author.Needs.{needs}
-use Rattle.matrices.proofs.peeling.before.Statement.{statement}
-use Rattle.matrices.proofs.peeling.before.Tie as tie
+use Rattle.matrices.proofs.spelling.without_last_part.Statement.{statement}
+use Rattle.matrices.proofs.spelling.without_last_part.Tie as tie
 
 times-r-requires : tie.Need-times-r-requires
 times-r-requires c κs = search needs
@@ -40,8 +40,8 @@ returns-3 c =
     let n = c .before .match .rest in
     c .times-s3 .ensures ∙ sym (before-ss (a .ending) (matrix (a .m)) (start .pre .0) (n .0 .1) (n .1))
 
-pub before-spec : {M : Type 1} → statement M
-before-spec =
+pub without-last-part-spec : {M : Type 1} → statement M
+without-last-part-spec =
     tie.close
     (tie.spec
     times-r-requires

@@ -5,19 +5,19 @@ use lib.IntN.{ℤ}
 use mir.Syntax.{w64}
 use mir.ValLaws.{toZ-ofZ}
 use Rattle.words.specs.Bytes.{pick}
-use Rattle.unimodular.proofs.Rows.{negative, positive, sameWay}
+use Rattle.unimodular.proofs.Rows.{negative, positive, signsAgree}
 use Rattle.matrices.proofs.Signed.{reading, negative-test, positive-test}
-use Rattle.matrices.proofs.ending.same_way.Statement.{statement}
-use Rattle.matrices.proofs.ending.same_way.Tie as tie
+use Rattle.matrices.proofs.ending.signs_agree.Statement.{statement}
+use Rattle.matrices.proofs.ending.signs_agree.Tie as tie
 
 module _ (x y : ℤ) where
-  first-negative : {t : Bool} → negative x ≡ true → positive y ≡ t → not t ≡ sameWay x y
+  first-negative : {t : Bool} → negative x ≡ true → positive y ≡ t → not t ≡ signsAgree x y
   first-negative e f = sym (λ i. pick (e i) (not (f i)) (pick (positive x) (not (negative y)) true))
 
-  first-positive : {t : Bool} → negative x ≡ false → positive x ≡ true → negative y ≡ t → not t ≡ sameWay x y
+  first-positive : {t : Bool} → negative x ≡ false → positive x ≡ true → negative y ≡ t → not t ≡ signsAgree x y
   first-positive e f g = sym (λ i. pick (e i) (not (positive y)) (pick (f i) (not (g i)) true))
 
-  first-neither : negative x ≡ false → positive x ≡ false → true ≡ sameWay x y
+  first-neither : negative x ≡ false → positive x ≡ false → true ≡ signsAgree x y
   first-neither e f = sym (λ i. pick (e i) (not (positive y)) (pick (f i) (not (negative y)) true))
 
 -- what is read for the two numbers is the numbers
@@ -47,5 +47,5 @@ returns-4 c =
 returns-5 : tie.Need-returns-5
 returns-5 c = first-neither (c .before .before .args .x) (c .before .before .args .y) (negative-test (read-x (c .before .before)) (c .before .if1 .left)) (positive-test (read-x (c .before .before)) (c .if3 .left))
 
-pub same-way-spec : {M : Type 1} → statement M
-same-way-spec = tie.close (tie.spec returns returns-2 returns-3 returns-4 returns-5)
+pub signs-agree-spec : {M : Type 1} → statement M
+signs-agree-spec = tie.close (tie.spec returns returns-2 returns-3 returns-4 returns-5)

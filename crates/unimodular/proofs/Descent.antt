@@ -1,6 +1,6 @@
 -- One step from the right: the last part of a matrix's normal form, and the matrix of what stands before it.
 --     part, before, size     the part that an ending stands for, the matrix without it, the sum of the entries without signs
---     peel                   the tests on the entries find exactly the last part
+--     without-last-part      the tests on the entries find exactly the last part
 --     ending-nothing, ending-something    they find none exactly where the normal form is empty
 --     size-before, smaller-before    the matrix before is not larger, and smaller before an S or SS
 --     normal-form-exists     so every matrix of determinant 1 has a normal form
@@ -18,9 +18,9 @@ use Rattle.unimodular.proofs.Integers.{natAbs-negℤ, natAbs-+ℤ}
 use Rattle.unimodular.proofs.Product.{times-unit, times-assoc, times-r, times-s, times-ss, times-rr, times-sss, determinant-times-letter}
 use Rattle.unimodular.proofs.Product.{sign-refl, sign-sym, sign-trans, sign-times, matrixOf-append}
 use Rattle.unimodular.proofs.Rows.{Opposite, natAbs-first-larger, natAbs-second-larger}
-pub use Rattle.unimodular.proofs.Rows.{isZero, negative, positive, sameWay, atLeast}
+pub use Rattle.unimodular.proofs.Rows.{isZero, negative, positive, signsAgree, atLeast}
 unfoldable pub use Rattle.unimodular.proofs.Ending.{ending}
-pub use Rattle.unimodular.proofs.Ending.{isUnit, columnsSameWay, firstColumnLarger, ending-is-nothing, ending-is-r, ending-is-s, ending-is-ss, ending-sign}
+pub use Rattle.unimodular.proofs.Ending.{isUnit, columnsAgree, firstColumnLarger, ending-is-nothing, ending-is-r, ending-is-s, ending-is-ss, ending-sign}
 use Rattle.unimodular.proofs.Determinant.{no-first-column, no-second-column, diagonal-unit}
 use Rattle.unimodular.proofs.Shape.{Shape, nothing, same, first, second, shape-of, shape-rr}
 use Rattle.unimodular.proofs.LastPart.{back, last, back-reverse, matrixOf-back, ending-word, nothing-of-ending}
@@ -61,7 +61,7 @@ part-behind (suc zero) m = inr (times-rr m)
 part-behind (suc (suc zero)) m = inr (times-sss m)
 part-behind (suc (suc (suc k))) m = inr (sym (times-assoc (times m (matrixOfLetter S)) (matrixOfLetter S) (matrixOfLetter S)) ∙ times-sss m)
 
--- ---- peeling a word
+-- ---- a word without its last part
 
 -- what is left of a word that stands back to front when its last part is gone
 abbrev rest : Word → Word
@@ -101,8 +101,8 @@ module _ (m : Matrix) (v : Word) (p : NormalFormOf m v) where
   ending-last : ending m ≡ last (reverse v)
   ending-last = ending-sign (sign-sym (p .matrix)) ∙ ending-word v (reduced-of-normal v (p .normal))
 
-  pub peel : (w : Word) × (v ≡ w ++ part (ending m)) × NormalFormOf (before (ending m) m) w
-  peel = rw ending-last (reverse (rest r), sym (reverse-reverse v) ∙ rest-word r, record { normal = left-normal; matrix = left-matrix })
+  pub without-last-part : (w : Word) × (v ≡ w ++ part (ending m)) × NormalFormOf (before (ending m) m) w
+  without-last-part = rw ending-last (reverse (rest r), sym (reverse-reverse v) ∙ rest-word r, record { normal = left-normal; matrix = left-matrix })
     where
       r : Word
       r = reverse v

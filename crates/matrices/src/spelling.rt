@@ -8,12 +8,12 @@ ghost use lib.IntN.{pos};
 ghost use lib.ListN.{length, drop};
 ghost use Rattle.words.specs.Bytes.{bytes};
 ghost use Rattle.unimodular.specs.Matrix.{determinant};
-ghost use Rattle.unimodular.proofs.Peeling.{size, part, before as beforePart};
+ghost use Rattle.unimodular.proofs.Descent.{size, part, before as beforePart};
 ghost use Rattle.matrices.specs.Entries.{matrix};
-ghost use Rattle.matrices.specs.Peeling.{Peeled};
+ghost use Rattle.matrices.specs.Spelling.{formRoom, Spelled};
 
-// A letter is put before what stands from `at` on.
-fn put(form: &mut [u8], at: usize, byte: u8) -> usize
+// A letter goes before what stands from `at` on.
+fn prepend(form: &mut [u8], at: usize, byte: u8) -> usize
     requires { ⌜ (0 < at) × (at ≤ length (now form)) ⌝ }
     ensures { λ r. ⌜ (r + 1 ≡ at) × (drop r (now (form .exit)) ≡ byte ∷ drop at (now (form .entry))) ⌝ }
 {
@@ -21,24 +21,24 @@ fn put(form: &mut [u8], at: usize, byte: u8) -> usize
     at - 1
 }
 
-// The part that an ending stands for is put before what stands from `at` on.
-fn put_part(form: &mut [u8], at: usize, ending: u8) -> usize
+// The part that an ending stands for goes before what stands from `at` on.
+fn prepend_part(form: &mut [u8], at: usize, ending: u8) -> usize
     requires { ⌜ 0 < ending ⌝ }
     requires { ⌜ (1 < at) × (at ≤ length (now form)) ⌝ }
     ensures { λ r. ⌜ (r + length (part ending) ≡ at) × (drop r (now (form .exit)) ≡ bytes (part ending) ++ drop at (now (form .entry))) ⌝ }
 {
     match ending {
-        1 => put(form, at, 82),
-        2 => put(form, at, 83),
+        1 => prepend(form, at, 82),
+        2 => prepend(form, at, 83),
         _ => {
-            let once = put(form, at, 83);
-            put(form, once, 83)
+            let once = prepend(form, at, 83);
+            prepend(form, once, 83)
         }
     }
 }
 
-// The matrix without that part, up to sign: R is its own inverse, and S and SS are each other's.
-fn before(m: Matrix, ending: u8) -> Matrix
+// The matrix without its last part, up to sign: R is its own inverse, and S and SS are each other's.
+fn without_last_part(m: Matrix, ending: u8) -> Matrix
     requires { ⌜ 0 < ending ⌝ }
     requires { ⌜ size (matrix m) ≤ 2 ^ 43 ⌝ }
     ensures { λ r. ⌜ matrix r ≡ beforePart ending (matrix m) ⌝ }
@@ -50,13 +50,12 @@ fn before(m: Matrix, ending: u8) -> Matrix
     }
 }
 
-// The normal form stands from the returned index on, unless more than 80 letters stand there: then there was no need to go on. 82 bytes are
-// room for 80 letters and one part more.
-pub(crate) fn peel_all(m: Matrix, form: &mut [u8]) -> usize
+// The normal form stands from the returned index on, unless more letters stand there than question 12 lets pass: then there was no need to go on.
+pub(crate) fn spell(m: Matrix, form: &mut [u8]) -> usize
     requires { ⌜ determinant (matrix m) ≡ pos 1 ⌝ }
     requires { ⌜ size (matrix m) ≤ 2 ^ 43 ⌝ }
-    requires { ⌜ length (now form) ≡ 82 ⌝ }
-    ensures { λ r. ⌜ Peeled (matrix m) (now (form .exit)) r ⌝ }
+    requires { ⌜ length (now form) ≡ formRoom ⌝ }
+    ensures { λ r. ⌜ Spelled (matrix m) (now (form .exit)) r ⌝ }
 {
     let mut left = m;
     let mut at = form.len();
@@ -65,8 +64,8 @@ pub(crate) fn peel_all(m: Matrix, form: &mut [u8]) -> usize
         if last == 0 {
             return at;
         }
-        at = put_part(form, at, last);
-        left = before(left, last);
+        at = prepend_part(form, at, last);
+        left = without_last_part(left, last);
     }
     at
 }
