@@ -3,9 +3,9 @@ use mathlib.Core.List.{List, [], _∷_}
 use Prim.Native.Nat.{ℕ, zero, suc, _*_, _≤_, _<_}
 use native.Mathlib.Omega.{arith}
 use lib.ListN.{length, take, getD, length-append}
-use Rattle.words.specs.Questions.{number, place}
-use Rattle.words.specs.declared.Refusal.{Refusal}
-use Rattle.words.specs.declared.Refusal.the-variants.{CardTooLong, BitMapWrong, FieldCut, SpareByte, EntryTooLarge, DeterminantNotOne, TooManyGenerators, TooManyLetters, EndsWrong, NotALetter, GeneratorTooLong, NormalFormTooLong, BoundTooLarge, OutputTooShort, TableTooShort, MatrixTooLarge}
+use Rattle.refusals.specs.Questions.{number, place}
+use Rattle.refusals.specs.declared.Refusal.{Refusal}
+use Rattle.refusals.specs.declared.Refusal.the-variants.{CardTooLong, BitMapWrong, FieldCut, SpareByte, EntryTooLarge, DeterminantNotOne, TooManyGenerators, TooManyLetters, EndsWrong, NotALetter, GeneratorTooLong, NormalFormTooLong, BoundTooLarge, OutputTooShort, TableTooShort, MatrixTooLarge}
 use Rattle.answers.specs.Line.{field, fieldsOf, said, line}
 use Rattle.answers.specs.Calls.{Shown, longest}
 use Rattle.answers.specs.declared.Answer.{Answer}

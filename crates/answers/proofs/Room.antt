@@ -6,7 +6,7 @@ use Prim.Native.Nat.{ℕ, _≤_, _<_}
 use lib.Dec.{leb}
 use lib.ListN.{length}
 use borrow.Author.Tests.{leb-true, leb-false}
-use Rattle.words.specs.Bytes.{pick}
+use Rattle.refusals.specs.Telling.{pick}
 use Rattle.answers.specs.Line.{line}
 use Rattle.answers.specs.Calls.{WritesLine}
 use Rattle.answers.specs.declared.Answer.{Answer}

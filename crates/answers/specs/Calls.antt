@@ -4,9 +4,9 @@ use mathlib.Core.List.{List}
 use Prim.Native.Nat.{ℕ, _^_, _≤_, _<_}
 use lib.Dec.{leb}
 use lib.ListN.{length, getD}
-use Rattle.words.specs.Bytes.{pick}
-use Rattle.words.specs.Questions.{place}
-use Rattle.words.specs.Slices.{overwritten}
+use Rattle.refusals.specs.Telling.{pick}
+use Rattle.refusals.specs.Questions.{place}
+use Rattle.slices.specs.Slices.{overwritten}
 use Rattle.answers.specs.Line.{line}
 use Rattle.answers.specs.declared.Answer.{Answer}
 use Rattle.answers.specs.declared.Answer.the-variants.{Member, None, Refused}

@@ -5,8 +5,8 @@ use mathlib.Core.List.{List, [], _∷_, _++_}
 use Prim.Native.Nat.{ℕ, zero, suc, _+_, _/_, _%_}
 use lib.Dec.{leb}
 use lib.ListN.{take}
-use Rattle.words.specs.Bytes.{pick}
-use Rattle.words.specs.Questions.{number, place}
+use Rattle.refusals.specs.Telling.{pick}
+use Rattle.refusals.specs.Questions.{number, place}
 use Rattle.answers.specs.declared.Answer.{Answer}
 use Rattle.answers.specs.declared.Answer.the-variants.{Member, None, Refused}
 

@@ -6,7 +6,7 @@ use words::Refusal;
 ghost use mathlib.Core.List.{[], _∷_, _++_};
 ghost use Prim.Native.Nat.{_+_, _*_, _^_, _≤_, _<_};
 ghost use lib.ListN.{length, take};
-ghost use Rattle.words.specs.Questions.{number as numberOf, place as placeOf};
+ghost use Rattle.refusals.specs.Questions.{number as numberOf, place as placeOf};
 ghost use Rattle.answers.specs.Line.{field, fieldsOf, memberName, noneName, refusedName, said as saidOf, line as lineOf};
 ghost use Rattle.answers.specs.Storing.{Stores};
 
@@ -92,8 +92,8 @@ fn refused(refusal: Refusal, out: &mut [u8]) -> usize
     ensures { λ r. ⌜ Stores (refusedName ++ (field (numberOf refusal) ++ field (placeOf refusal))) 0 (now (out .entry)) r (now (out .exit)) ⌝ }
     ensures { λ r. ⌜ r < 2 ^ 32 ⌝ }
 {
-    let number = words::questions::number(refusal) as u64;
-    let place = words::questions::place(refusal) as u64;
+    let number = refusals::number(refusal) as u64;
+    let place = refusals::place(refusal) as u64;
     let named = put(b"refused", out, 0);
     let numbered = put_field(number, out, named);
     put_field(place, out, numbered)

@@ -8,8 +8,8 @@ use words::Refusal;
 ghost use mathlib.Core.Path.{_≡_};
 ghost use lib.Dec.{leb};
 ghost use lib.ListN.{length};
-ghost use Rattle.words.specs.Bytes.{pick};
-ghost use Rattle.words.specs.Slices.{overwritten};
+ghost use Rattle.refusals.specs.Telling.{pick};
+ghost use Rattle.slices.specs.Slices.{overwritten};
 ghost use Rattle.answers.specs.Line.{line};
 
 // Prints the answer's line, or else why it is not printed.

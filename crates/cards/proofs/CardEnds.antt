@@ -4,7 +4,7 @@ use mathlib.Core.List.{List, [], _∷_}
 use Prim.Native.Nat.{ℕ, _-_, _<_}
 use native.Mathlib.Omega.{arith}
 use lib.ListN.{length, drop, length-drop}
-use Rattle.words.specs.declared.Refusal.the-variants.{SpareByte}
+use Rattle.refusals.specs.declared.Refusal.the-variants.{SpareByte}
 use Rattle.engine.specs.Calls.{Lent}
 use Rattle.answers.specs.declared.Answer.the-variants.{Refused as Answer·Refused}
 use Rattle.fields.specs.Field.{Whole}

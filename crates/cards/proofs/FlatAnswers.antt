@@ -7,13 +7,13 @@ use lib.Dec.{leb}
 use lib.ListN.{length}
 use borrow.Author.Tests.{le-leb, lt-leb, leb-true}
 use Rattle.limits.specs.Limits.{mostGenerators, mostLetters}
-use Rattle.words.specs.Questions.{firstNo, question8}
+use Rattle.refusals.specs.Questions.{firstNo, question8}
 use Rattle.words.specs.declared.Letters.{Letters}
-use Rattle.words.specs.declared.Refusal.{Refusal}
-use Rattle.words.specs.declared.Refusal.the-variants.{TooManyGenerators, TooManyLetters}
-use Rattle.words.specs.declared.Asked.{Asked}
-use Rattle.words.specs.declared.Asked.the-variants.{Passed, Refused}
-use Rattle.words.proofs.Asking.{asks-yes, asks-no, yes-first, no-first, asks-passed, first-no-one}
+use Rattle.refusals.specs.declared.Refusal.{Refusal}
+use Rattle.refusals.specs.declared.Refusal.the-variants.{TooManyGenerators, TooManyLetters}
+use Rattle.refusals.specs.declared.Asked.{Asked}
+use Rattle.refusals.specs.declared.Asked.the-variants.{Passed, Refused}
+use Rattle.refusals.proofs.Asking.{asks-yes, asks-no, yes-first, no-first, asks-passed, first-no-one}
 use Rattle.lists.specs.Questions.{question7}
 use Rattle.cards.specs.Card.{listBytes}
 use Rattle.cards.specs.Reading.{FlatRight, Flattens}

@@ -7,13 +7,13 @@ use lib.Dec.{leb}
 use lib.ListN.{length, take}
 use borrow.Author.Tests.{leb-true}
 use Rattle.limits.specs.Limits.{mostGenerators, mostLetters}
-use Rattle.words.specs.Questions.{firstNo, question8, question10}
+use Rattle.refusals.specs.Questions.{firstNo, question8, question10}
 use Rattle.words.specs.declared.Letters.{Letters}
-use Rattle.words.specs.declared.Refusal.{Refusal}
-use Rattle.words.specs.declared.Refusal.the-variants.{TooManyGenerators, TooManyLetters}
-use Rattle.words.specs.declared.Asked.{Asked}
-use Rattle.words.specs.declared.Asked.the-variants.{Passed, Refused}
-use Rattle.words.proofs.Asking.{asks-passed, first-no-refused, first-no-head, first-no-tail, first-no-one}
+use Rattle.refusals.specs.declared.Refusal.{Refusal}
+use Rattle.refusals.specs.declared.Refusal.the-variants.{TooManyGenerators, TooManyLetters}
+use Rattle.refusals.specs.declared.Asked.{Asked}
+use Rattle.refusals.specs.declared.Asked.the-variants.{Passed, Refused}
+use Rattle.refusals.proofs.Asking.{asks-passed, first-no-refused, first-no-head, first-no-tail, first-no-one}
 use Rattle.words.proofs.Answering.{take-overwritten}
 use Rattle.lists.specs.Questions.{question7, question9, ofList}
 use Rattle.cards.specs.Card.{listBytes, listEnds}

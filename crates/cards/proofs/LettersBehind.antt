@@ -9,11 +9,11 @@ use lib.Dec.{leb}
 use lib.ListN.{length, length-append}
 use borrow.Author.Tests.{le-leb, lt-leb}
 use Rattle.limits.specs.Limits.{mostLetters}
-use Rattle.words.specs.Questions.{firstNo, firstOther, question8, question10}
-use Rattle.words.specs.declared.Refusal.the-variants.{TooManyLetters, NotALetter}
-use Rattle.words.specs.declared.Asked.{Asked}
-use Rattle.words.specs.declared.Asked.the-variants.{Passed, Refused}
-use Rattle.words.proofs.Asking.{asks-yes, asks-no}
+use Rattle.refusals.specs.Questions.{firstNo, firstOther, question8, question10}
+use Rattle.refusals.specs.declared.Refusal.the-variants.{TooManyLetters, NotALetter}
+use Rattle.refusals.specs.declared.Asked.{Asked}
+use Rattle.refusals.specs.declared.Asked.the-variants.{Passed, Refused}
+use Rattle.refusals.proofs.Asking.{asks-yes, asks-no}
 use Rattle.lists.specs.Questions.{question7, question9, ofList}
 use Rattle.lists.specs.Reducing.{AllLetters}
 use Rattle.lists.proofs.FirstOthers.{first-other-front, first-other-behind}

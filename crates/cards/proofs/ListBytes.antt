@@ -10,12 +10,12 @@ use lib.ListN.{length, length-append}
 use borrow.Author.Tests.{le-leb, eq-eqb}
 use Rattle.words.specs.Word.{Word}
 use Rattle.words.specs.Bytes.{word}
-use Rattle.words.specs.Questions.{asks}
-use Rattle.words.specs.declared.Refusal.the-variants.{EndsWrong}
-use Rattle.words.specs.declared.Asked.{Asked}
-use Rattle.words.specs.declared.Asked.the-variants.{Passed}
-use Rattle.words.proofs.Asking.{yes-first}
-use Rattle.words.proofs.Slices.{slice-middle}
+use Rattle.refusals.specs.Questions.{asks}
+use Rattle.refusals.specs.declared.Refusal.the-variants.{EndsWrong}
+use Rattle.refusals.specs.declared.Asked.{Asked}
+use Rattle.refusals.specs.declared.Asked.the-variants.{Passed}
+use Rattle.refusals.proofs.Asking.{yes-first}
+use Rattle.slices.proofs.Slices.{slice-middle}
 use Rattle.lists.specs.Questions.{firstFall, lastEnd, question9}
 use Rattle.products.specs.Product.{generatorsFrom, generators}
 use Rattle.cards.specs.Card.{listBytes, listEnds}

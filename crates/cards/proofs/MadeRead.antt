@@ -8,7 +8,7 @@ use lib.ListN.{length}
 use lib.IntN.{ℤ, pos, negsuc}
 use lib.Signed.{mag}
 use Rattle.unimodular.specs.Matrix.{Matrix}
-use Rattle.words.specs.declared.Asked.the-variants.{Passed}
+use Rattle.refusals.specs.declared.Asked.the-variants.{Passed}
 use Rattle.fields.specs.Field.{Read, Whole, next, signedField, lettersField, spelled}
 use Rattle.fields.proofs.Reading.{number-read, letters-read, signed-read}
 use Rattle.cards.specs.Card.{Target, Letters, Entries, bit, defaultBound, boundField, matrixField, targetField, generatorFields, listField, afterTarget, afterBound, cardOf}

@@ -8,11 +8,11 @@ use lib.Dec.{leb}
 use lib.ListN.{length, drop, getD}
 use borrow.Author.Tests.{le-leb, lt-leb}
 use Rattle.limits.specs.Limits.{mostCardBytes}
-use Rattle.words.specs.Bytes.{pick}
-use Rattle.words.specs.Questions.{asks, firstNo}
-use Rattle.words.specs.declared.Refusal.the-variants.{CardTooLong, BitMapWrong}
-use Rattle.words.specs.declared.Asked.the-variants.{Passed, Refused}
-use Rattle.words.proofs.Asking.{first-no-one, yes-first, no-first}
+use Rattle.refusals.specs.Telling.{pick}
+use Rattle.refusals.specs.Questions.{asks, firstNo}
+use Rattle.refusals.specs.declared.Refusal.the-variants.{CardTooLong, BitMapWrong}
+use Rattle.refusals.specs.declared.Asked.the-variants.{Passed, Refused}
+use Rattle.refusals.proofs.Asking.{first-no-one, yes-first, no-first}
 use Rattle.cards.specs.Card.{bit, cardOf, fields}
 use Rattle.cards.specs.Questions.{question2, ofMap}
 

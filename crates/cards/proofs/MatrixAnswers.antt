@@ -7,10 +7,10 @@ use Rattle.limits.specs.Limits.{mostOfForm}
 use Rattle.words.specs.Word.{Word}
 use Rattle.words.specs.Bytes.{word}
 use Rattle.words.specs.declared.Letters.{Letters}
-use Rattle.words.specs.declared.Refusal.{Refusal}
-use Rattle.words.specs.declared.Refusal.the-variants.{NormalFormTooLong}
-use Rattle.words.specs.declared.Asked.{Asked}
-use Rattle.words.specs.declared.Asked.the-variants.{Passed, Refused}
+use Rattle.refusals.specs.declared.Refusal.{Refusal}
+use Rattle.refusals.specs.declared.Refusal.the-variants.{NormalFormTooLong}
+use Rattle.refusals.specs.declared.Asked.{Asked}
+use Rattle.refusals.specs.declared.Asked.the-variants.{Passed, Refused}
 use Rattle.words.specs.declared.Written.{Written}
 use Rattle.words.specs.declared.Written.the-variants.{Length, Refused as Written·Refused}
 use Rattle.unimodular.specs.Matrix.{Matrix, NormalFormOf}

@@ -9,20 +9,19 @@ use borrow.Author.Tests.{lt-leb}
 use Rattle.limits.specs.Limits.{mostLetters, mostOfForm}
 use Rattle.words.specs.Word.{Word, Normal, nf}
 use Rattle.words.specs.Bytes.{word, bytes}
-use Rattle.words.specs.Questions.{firstNo, question14}
-use Rattle.words.specs.declared.Refusal.{Refusal}
-use Rattle.words.specs.declared.Refusal.the-variants.{NormalFormTooLong}
-use Rattle.words.specs.declared.Asked.{Asked}
-use Rattle.words.specs.declared.Asked.the-variants.{Passed, Refused}
-use Rattle.words.proofs.Asking.{no-first, refused-first}
-use Rattle.words.proofs.Bytes.{word-bytes, length-bytes}
-use Rattle.words.proofs.FirstOther.{first-other-bytes}
+use Rattle.refusals.specs.Questions.{firstNo, question14}
+use Rattle.refusals.specs.declared.Refusal.{Refusal}
+use Rattle.refusals.specs.declared.Refusal.the-variants.{NormalFormTooLong}
+use Rattle.refusals.specs.declared.Asked.{Asked}
+use Rattle.refusals.specs.declared.Asked.the-variants.{Passed, Refused}
+use Rattle.refusals.proofs.Asking.{no-first, refused-first}
+use Rattle.words.proofs.Bytes.{word-bytes, length-bytes, first-other-bytes}
 use Rattle.words.proofs.NormalForm.{nf-of-normal}
 use Rattle.products.specs.Product.{generators}
 use Rattle.lists.specs.Questions.{ofList, question11}
 use Rattle.lists.specs.NormalList.{total}
 use Rattle.lists.specs.Reducing.{AllLetters}
-use Rattle.sizes.specs.Questions.{side, question13, question15, ofSizes}
+use Rattle.sizes.specs.Questions.{side, ofBound, ofTables, ofSizes}
 use Rattle.engine.specs.Questions.{ofProduct}
 use Rattle.engine.specs.Calls.{Lent, Judged}
 use Rattle.engine.specs.declared.Verdict.the-variants.{Refused as Verdict·Refused}
@@ -85,7 +84,7 @@ module _ (n : ℕ) (list : List (List ℕ)) where
         twelfth : (target : Word) → mostOfForm < length (nf target) → (lent : Lent) → sizes target lent ≡ Refused NormalFormTooLong
         twelfth target h lent =
             no-first (leb (length (nf target)) mostOfForm) NormalFormTooLong
-            (question13 n ∷ question14 n (length (lent .witness)) ∷ question15 (q target) (length (lent .first)) (length (lent .second)) ∷ [])
+            (ofBound n (length (lent .witness)) ∷ ofTables (q target) (length (lent .first)) (length (lent .second)) ∷ [])
             (lt-leb (length (nf target)) mostOfForm h)
 
         -- a refusal does not speak of the target

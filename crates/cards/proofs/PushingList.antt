@@ -8,8 +8,8 @@ use native.Mathlib.Omega.{arith}
 use lib.ListN.{length, drop, set, length-append}
 use lib.Seq.{paste}
 use Rattle.limits.specs.Limits.{mostLetters}
-use Rattle.words.specs.Slices.{overwritten}
-use Rattle.words.proofs.Slices.{front-pasted, front-stored}
+use Rattle.slices.specs.Slices.{overwritten}
+use Rattle.slices.proofs.Slices.{front-pasted, front-stored}
 use Rattle.fields.specs.Field.{Whole}
 use Rattle.cards.specs.Card.{generatorFields, listBytes, listEnds}
 use Rattle.cards.specs.Reading.{Listed}

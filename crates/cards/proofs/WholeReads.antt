@@ -10,7 +10,7 @@ use native.Mathlib.Nat.{le-refl}
 use native.Mathlib.Omega.{arith}
 use lib.Dec.{leb}
 use lib.ListN.{length, take, drop, length-drop}
-use Rattle.words.specs.Bytes.{pick}
+use Rattle.refusals.specs.Telling.{pick}
 use Rattle.fields.specs.Field.{Read, Whole, Cut, next, bytesField, number, numberField, lettersField}
 use Rattle.cards.specs.Card.{generatorFields}
 

@@ -5,7 +5,7 @@ use Prim.Native.Nat.{ℕ, zero, suc, _+_, _/_, _%_}
 use lib.Dec.{eqb}
 use lib.ListN.{length}
 use lib.IntN.{ℤ}
-use Rattle.words.specs.Bytes.{pick}
+use Rattle.refusals.specs.Telling.{pick}
 use Rattle.unimodular.specs.Matrix.{Matrix}
 use Rattle.fields.specs.Field.{Read, Whole, Cut, next, numberField, signedField, lettersField}
 

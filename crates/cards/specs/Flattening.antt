@@ -5,9 +5,9 @@ use Prim.Native.Nat.{ℕ, _+_, _≤_}
 use lib.Seq.{paste}
 use lib.ListN.{length, drop, set}
 use Rattle.limits.specs.Limits.{mostLetters}
-use Rattle.words.specs.Slices.{overwritten}
-use Rattle.words.specs.declared.Asked.{Asked}
-use Rattle.words.specs.declared.Asked.the-variants.{Passed, Refused}
+use Rattle.slices.specs.Slices.{overwritten}
+use Rattle.refusals.specs.declared.Asked.{Asked}
+use Rattle.refusals.specs.declared.Asked.the-variants.{Passed, Refused}
 use Rattle.fields.specs.Field.{Whole, lettersField}
 use Rattle.cards.specs.Card.{listBytes, listEnds}
 use Rattle.cards.specs.Reading.{Stands, Listed}

@@ -5,11 +5,11 @@ use Prim.Native.Nat.{ℕ}
 use lib.Dec.{leb}
 use lib.ListN.{length}
 use Rattle.limits.specs.Limits.{mostCardBytes}
-use Rattle.words.specs.Bytes.{pick}
-use Rattle.words.specs.Questions.{asks, firstNo}
-use Rattle.words.specs.declared.Refusal.the-variants.{CardTooLong, BitMapWrong}
-use Rattle.words.specs.declared.Asked.{Asked}
-use Rattle.words.specs.declared.Asked.the-variants.{Refused}
+use Rattle.refusals.specs.Telling.{pick}
+use Rattle.refusals.specs.Questions.{asks, firstNo}
+use Rattle.refusals.specs.declared.Refusal.the-variants.{CardTooLong, BitMapWrong}
+use Rattle.refusals.specs.declared.Asked.{Asked}
+use Rattle.refusals.specs.declared.Asked.the-variants.{Refused}
 use Rattle.cards.specs.Card.{bit}
 
 -- 1: "Has the card at most 8,326 bytes?"

@@ -4,10 +4,10 @@ use mathlib.Core.List.{List, [], _∷_}
 use Prim.Native.Nat.{ℕ, _+_, _≤_}
 use lib.Seq.{slice}
 use lib.ListN.{length, drop}
-use Rattle.words.specs.Questions.{firstNo, question8}
-use Rattle.words.specs.Slices.{overwritten}
-use Rattle.words.specs.declared.Asked.{Asked}
-use Rattle.words.specs.declared.Asked.the-variants.{Passed, Refused}
+use Rattle.refusals.specs.Questions.{firstNo, question8}
+use Rattle.slices.specs.Slices.{overwritten}
+use Rattle.refusals.specs.declared.Asked.{Asked}
+use Rattle.refusals.specs.declared.Asked.the-variants.{Passed, Refused}
 use Rattle.lists.specs.Questions.{question7}
 use Rattle.unimodular.specs.Matrix.{Matrix}
 use Rattle.matrices.specs.Entries.{matrix}

@@ -13,7 +13,7 @@ ghost use mathlib.Core.Path.{_≡_};
 ghost use mathlib.Core.Bool.{false};
 ghost use Prim.Native.Nat.{_≤_};
 ghost use lib.ListN.{length, drop};
-ghost use Rattle.words.specs.Bytes.{pick};
+ghost use Rattle.refusals.specs.Telling.{pick};
 ghost use Rattle.cards.specs.Card.{bit, boundField, matrixField, lettersTarget, matrixTarget, targetField, generatorFields, countedList, listField};
 ghost use Rattle.cards.specs.Reading.{BoundIs, MatrixIs, TargetIs, SkippedTo, ListIs};
 

@@ -6,11 +6,11 @@ use native.Mathlib.Omega.{arith}
 use lib.ListN.{length, take}
 use Rattle.words.specs.Word.{Word, nf}
 use Rattle.words.specs.Bytes.{word}
-use Rattle.words.specs.Questions.{firstNo}
-use Rattle.words.specs.declared.Refusal.{Refusal}
-use Rattle.words.specs.declared.Asked.{Asked}
-use Rattle.words.specs.declared.Asked.the-variants.{Passed, Refused}
-use Rattle.words.proofs.Asking.{passed-first, refused-first, first-no-one}
+use Rattle.refusals.specs.Questions.{firstNo}
+use Rattle.refusals.specs.declared.Refusal.{Refusal}
+use Rattle.refusals.specs.declared.Asked.{Asked}
+use Rattle.refusals.specs.declared.Asked.the-variants.{Passed, Refused}
+use Rattle.refusals.proofs.Asking.{passed-first, refused-first, first-no-one}
 use Rattle.words.proofs.Reduced.{normal-of-reduced}
 use Rattle.products.specs.Product.{generators, generator}
 use Rattle.products.specs.State.{AllNormal}

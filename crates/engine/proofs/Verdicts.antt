@@ -5,9 +5,9 @@ use Prim.Native.Nat.{ℕ, _*_, _≤_}
 use lib.ListN.{length, drop, replicate, length-replicate}
 use borrow.Author.Tests.{le-leb}
 use Rattle.words.specs.Word.{Word}
-use Rattle.words.specs.declared.Refusal.{Refusal}
-use Rattle.words.specs.declared.Asked.{Asked}
-use Rattle.words.specs.declared.Asked.the-variants.{Passed, Refused}
+use Rattle.refusals.specs.declared.Refusal.{Refusal}
+use Rattle.refusals.specs.declared.Asked.{Asked}
+use Rattle.refusals.specs.declared.Asked.the-variants.{Passed, Refused}
 use Rattle.engine.specs.Calls.{Lent, VerdictRight, Judged}
 use Rattle.sizes.specs.Zeroing.{zeroed, Zeroes}
 use Rattle.engine.specs.Judging.{Settled}

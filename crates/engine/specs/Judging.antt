@@ -5,7 +5,7 @@ use Prim.Native.Nat.{ℕ, _*_, _≤_, _<_}
 use lib.ListN.{length, drop}
 use Rattle.limits.specs.Limits.{mostGenerators, mostOfList}
 use Rattle.words.specs.Word.{Word}
-use Rattle.words.specs.declared.Refusal.the-variants.{TableTooShort}
+use Rattle.refusals.specs.declared.Refusal.the-variants.{TableTooShort}
 use Rattle.products.specs.Product.{generators}
 use Rattle.products.specs.State.{AllNormal}
 use Rattle.sizes.specs.Questions.{side, ofSizes}

@@ -4,8 +4,8 @@ use Prim.Native.Nat.{ℕ}
 use lib.ListN.{length}
 use Rattle.words.specs.Word.{Word, nf}
 use Rattle.words.specs.Bytes.{word}
-use Rattle.words.specs.Questions.{firstNo}
-use Rattle.words.specs.declared.Asked.{Asked}
+use Rattle.refusals.specs.Questions.{firstNo}
+use Rattle.refusals.specs.declared.Asked.{Asked}
 use Rattle.products.specs.Product.{generators}
 use Rattle.lists.specs.Questions.{ofList, question11}
 use Rattle.lists.specs.NormalList.{total}

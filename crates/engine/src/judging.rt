@@ -13,7 +13,7 @@ ghost use lib.ListN.{length};
 ghost use Rattle.limits.specs.Limits.{mostLetters};
 ghost use Rattle.words.specs.Word.{Normal, nf};
 ghost use Rattle.words.specs.Bytes.{word};
-ghost use Rattle.words.specs.Questions.{ofLetters};
+ghost use Rattle.refusals.specs.Questions.{ofLetters};
 ghost use Rattle.products.specs.Product.{generators};
 ghost use Rattle.lists.specs.Questions.{ofList};
 ghost use Rattle.sizes.specs.Questions.{side, ofSizes};

@@ -3,7 +3,7 @@ use engine::Verdict;
 ghost use mathlib.Core.Path.{_≡_};
 ghost use Prim.Native.Nat.{_+_, _^_, _<_};
 ghost use lib.Dec.{eqb};
-ghost use Rattle.words.specs.Bytes.{pick};
+ghost use Rattle.refusals.specs.Telling.{pick};
 ghost use Rattle.engine_trial.specs.Counting.{countOf};
 
 fn number(x: u16) {

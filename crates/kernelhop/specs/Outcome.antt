@@ -2,9 +2,9 @@
 use mathlib.Core.List.{List, [], _∷_}
 use Prim.Native.Nat.{ℕ}
 use lib.IntN.{ℤ}
-use Rattle.words.specs.Questions.{number, place}
+use Rattle.refusals.specs.Questions.{number, place}
 use Rattle.words.specs.declared.Factors.{Factors}
-use Rattle.words.specs.declared.Refusal.{Refusal}
+use Rattle.refusals.specs.declared.Refusal.{Refusal}
 use Rattle.words.specs.declared.Written.{Written}
 use Rattle.words.specs.declared.Written.the-variants.{Length, Refused as Written·Refused}
 use Rattle.words.specs.declared.Tested.{Tested}

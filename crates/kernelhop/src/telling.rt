@@ -16,8 +16,8 @@ pub(crate) fn refusal(refusal: Refusal) -> Outcome
     ensures { λ r. ⌜ r ≡ ofRefusal refusal ⌝ }
 {
     Outcome {
-        number: words::questions::number(refusal),
-        value: words::questions::place(refusal),
+        number: refusals::number(refusal),
+        value: refusals::place(refusal),
     }
 }
 

@@ -7,15 +7,15 @@ use lib.Dec.{leb}
 use lib.ListN.{length}
 use borrow.Author.Tests.{le-leb, lt-leb}
 use Rattle.words.specs.Word.{Word}
-use Rattle.words.specs.Questions.{firstNo, question14}
-use Rattle.words.specs.Slices.{overwritten, written}
-use Rattle.words.specs.Calls.{lengthOr}
-use Rattle.words.specs.declared.Refusal.{Refusal}
-use Rattle.words.specs.declared.Refusal.the-variants.{GeneratorTooLong, OutputTooShort}
-use Rattle.words.specs.declared.Asked.{Asked}
-use Rattle.words.specs.declared.Asked.the-variants.{Refused}
+use Rattle.refusals.specs.Questions.{firstNo, question14}
+use Rattle.slices.specs.Slices.{overwritten}
+use Rattle.words.specs.Calls.{written, lengthOr}
+use Rattle.refusals.specs.declared.Refusal.{Refusal}
+use Rattle.refusals.specs.declared.Refusal.the-variants.{GeneratorTooLong, OutputTooShort}
+use Rattle.refusals.specs.declared.Asked.{Asked}
+use Rattle.refusals.specs.declared.Asked.the-variants.{Refused}
 use Rattle.words.specs.declared.Written.the-variants.{Length, Refused as Written·Refused}
-use Rattle.words.proofs.Asking.{yes-first, no-first, passed-first, refused-first}
+use Rattle.refusals.proofs.Asking.{yes-first, no-first, passed-first, refused-first}
 use Rattle.products.specs.Product.{generators}
 use Rattle.products.proofs.Generators.{generators-length}
 use Rattle.lists.specs.Questions.{ofList, firstLong, question11}

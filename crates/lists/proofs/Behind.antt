@@ -11,7 +11,8 @@ use lib.Seq.{slice, drop-cons, take-all}
 use borrow.Author.Tests.{le-leb, lt-leb}
 use Rattle.limits.specs.Limits.{mostOfGenerator, mostOfList}
 use Rattle.words.specs.Word.{Word, nf}
-use Rattle.words.specs.Bytes.{word, pick}
+use Rattle.words.specs.Bytes.{word}
+use Rattle.refusals.specs.Telling.{pick}
 use Rattle.products.specs.Product.{generatorsFrom, generators}
 use Rattle.products.proofs.Generators.{generators-length}
 use Rattle.lists.specs.Questions.{lastEnd, firstLong}

@@ -8,8 +8,8 @@ use native.Mathlib.Decide.{decLe}
 use native.Mathlib.Omega.{arith}
 use lib.ListN.{length, take, drop, take-append-drop, length-append}
 use lib.Seq.{slice, take-nil}
-use Rattle.words.specs.Bytes.{pick}
-use Rattle.words.specs.Questions.{isLetter, firstOther}
+use Rattle.refusals.specs.Telling.{pick}
+use Rattle.refusals.specs.Questions.{isLetter, firstOther}
 use Rattle.lists.specs.Reducing.{AllLetters}
 
 pub first-other-front : (u v : List ℕ) → firstOther u < length u → firstOther (u ++ v) ≡ firstOther u

@@ -8,10 +8,10 @@ use lib.ListN.{length, take, drop, getD, set}
 use lib.Seq.{paste, length-take-le, take-all, take-at, take-suc, take-paste, drop-cons}
 use Rattle.words.specs.Word.{Word, nf}
 use Rattle.words.specs.Bytes.{bytes}
-use Rattle.words.specs.Slices.{overwritten}
+use Rattle.slices.specs.Slices.{overwritten}
 use Rattle.words.proofs.Answering.{take-overwritten}
 use Rattle.words.proofs.Bytes.{length-bytes}
-use Rattle.words.proofs.Slices.{front-stored}
+use Rattle.slices.proofs.Slices.{front-stored}
 use Rattle.lists.specs.NormalList.{total, normalBytes, normalEnds}
 use Rattle.lists.proofs.NormalList.{normal-ends-length}
 

@@ -9,11 +9,11 @@ use borrow.Rule.Slice.PartMut.{putMid}
 use Rattle.limits.specs.Limits.{mostLetters}
 use Rattle.words.specs.Word.{nf}
 use Rattle.words.specs.Bytes.{word, bytes}
-use Rattle.words.specs.Questions.{ofWord}
-use Rattle.words.specs.Slices.{overwritten}
+use Rattle.refusals.specs.Questions.{ofWord}
+use Rattle.slices.specs.Slices.{overwritten}
 use Rattle.words.specs.Calls.{Writes}
-use Rattle.words.specs.declared.Refusal.{Refusal}
-use Rattle.words.specs.declared.Asked.the-variants.{Passed}
+use Rattle.refusals.specs.declared.Refusal.{Refusal}
+use Rattle.refusals.specs.declared.Asked.the-variants.{Passed}
 use Rattle.words.specs.declared.Written.{Written}
 use Rattle.words.specs.declared.Written.the-variants.{Length, Refused}
 use Rattle.words.proofs.Answering.{of-word-passes, answers-length, writes-front}

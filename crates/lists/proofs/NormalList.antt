@@ -9,7 +9,7 @@ use lib.Seq.{slice}
 use Rattle.words.specs.Word.{Word, nf}
 use Rattle.words.specs.Bytes.{word, bytes}
 use Rattle.words.proofs.Bytes.{word-bytes, length-bytes}
-use Rattle.words.proofs.Slices.{slice-middle}
+use Rattle.slices.proofs.Slices.{slice-middle}
 use Rattle.products.specs.Product.{generatorsFrom, generators}
 use Rattle.lists.specs.NormalList.{total, normalBytes, normalEnds}
 

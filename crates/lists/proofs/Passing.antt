@@ -7,11 +7,11 @@ use lib.Dec.{leb, eqb}
 use lib.ListN.{length}
 use borrow.Author.Tests.{leb-true, le-leb, eqb-true}
 use Rattle.limits.specs.Limits.{mostGenerators, mostLetters}
-use Rattle.words.specs.Questions.{asks, firstNo, firstOther, question8, question10, ofLetters}
-use Rattle.words.specs.declared.Refusal.the-variants.{TooManyGenerators, TooManyLetters, EndsWrong, NotALetter}
-use Rattle.words.specs.declared.Asked.{Asked}
-use Rattle.words.specs.declared.Asked.the-variants.{Passed}
-use Rattle.words.proofs.Asking.{asks-yes, asks-passed, yes-first, first-no-head, first-no-tail, first-no-one}
+use Rattle.refusals.specs.Questions.{asks, firstNo, firstOther, question8, question10, ofLetters}
+use Rattle.refusals.specs.declared.Refusal.the-variants.{TooManyGenerators, TooManyLetters, EndsWrong, NotALetter}
+use Rattle.refusals.specs.declared.Asked.{Asked}
+use Rattle.refusals.specs.declared.Asked.the-variants.{Passed}
+use Rattle.refusals.proofs.Asking.{asks-yes, asks-passed, yes-first, first-no-head, first-no-tail, first-no-one}
 use Rattle.lists.specs.Questions.{question7, firstFall, lastEnd, question9, ofList}
 use Rattle.lists.specs.Reducing.{AllLetters, Checked}
 use Rattle.lists.proofs.FirstOthers.{all-letters-front, all-letters-behind}

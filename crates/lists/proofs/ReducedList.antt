@@ -11,17 +11,17 @@ use lib.ListN.{length, take}
 use borrow.Author.Tests.{le-leb, leb-true}
 use Rattle.limits.specs.Limits.{mostGenerators, mostOfGenerator, mostOfList}
 use Rattle.words.specs.Word.{Word, nf}
-use Rattle.words.specs.Bytes.{pick}
-use Rattle.words.specs.Questions.{firstNo, question14}
-use Rattle.words.specs.Slices.{written}
+use Rattle.refusals.specs.Telling.{pick}
+use Rattle.refusals.specs.Questions.{firstNo, question14}
+use Rattle.words.specs.Calls.{written}
 use Rattle.words.specs.declared.Letters.{Letters}
-use Rattle.words.specs.declared.Refusal.{Refusal}
-use Rattle.words.specs.declared.Refusal.the-variants.{GeneratorTooLong, OutputTooShort}
-use Rattle.words.specs.declared.Asked.{Asked}
-use Rattle.words.specs.declared.Asked.the-variants.{Passed, Refused}
+use Rattle.refusals.specs.declared.Refusal.{Refusal}
+use Rattle.refusals.specs.declared.Refusal.the-variants.{GeneratorTooLong, OutputTooShort}
+use Rattle.refusals.specs.declared.Asked.{Asked}
+use Rattle.refusals.specs.declared.Asked.the-variants.{Passed, Refused}
 use Rattle.words.specs.declared.Written.{Written}
 use Rattle.words.specs.declared.Written.the-variants.{Length, Refused as Written·Refused}
-use Rattle.words.proofs.Asking.{asks-passed, yes-first, passed-first, refused-first}
+use Rattle.refusals.proofs.Asking.{asks-passed, yes-first, passed-first, refused-first}
 use Rattle.words.proofs.Answering.{refused-of-answer, passed-of-answer, take-overwritten}
 use Rattle.products.specs.Product.{generators}
 use Rattle.products.proofs.Generators.{generators-length}

@@ -6,12 +6,12 @@ use lib.Dec.{leb, eqb}
 use lib.ListN.{length}
 use borrow.Author.Tests.{le-leb, lt-leb, eq-eqb, ne-eqb}
 use Rattle.limits.specs.Limits.{mostGenerators, mostLetters}
-use Rattle.words.specs.Questions.{asks, firstNo, question8, question10}
-use Rattle.words.specs.declared.Refusal.{Refusal}
-use Rattle.words.specs.declared.Refusal.the-variants.{TooManyGenerators, TooManyLetters, EndsWrong}
-use Rattle.words.specs.declared.Asked.{Asked}
-use Rattle.words.specs.declared.Asked.the-variants.{Passed, Refused}
-use Rattle.words.proofs.Asking.{yes-first, no-first, passed-first, refused-first, first-no-one}
+use Rattle.refusals.specs.Questions.{asks, firstNo, question8, question10}
+use Rattle.refusals.specs.declared.Refusal.{Refusal}
+use Rattle.refusals.specs.declared.Refusal.the-variants.{TooManyGenerators, TooManyLetters, EndsWrong}
+use Rattle.refusals.specs.declared.Asked.{Asked}
+use Rattle.refusals.specs.declared.Asked.the-variants.{Passed, Refused}
+use Rattle.refusals.proofs.Asking.{yes-first, no-first, passed-first, refused-first, first-no-one}
 use Rattle.lists.specs.Questions.{firstFall, lastEnd, question9, ofList}
 
 module _ (ends : List ℕ) (letters : ℕ) where

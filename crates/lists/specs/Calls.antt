@@ -3,10 +3,9 @@ use mathlib.Core.Path.{_≡_}
 use mathlib.Core.List.{List, [], _∷_}
 use Prim.Native.Nat.{ℕ}
 use lib.ListN.{length}
-use Rattle.words.specs.Questions.{firstNo, question14}
-use Rattle.words.specs.Slices.{written}
-use Rattle.words.specs.Calls.{lengthOr}
-use Rattle.words.specs.declared.Asked.{Asked}
+use Rattle.refusals.specs.Questions.{firstNo, question14}
+use Rattle.words.specs.Calls.{written, lengthOr}
+use Rattle.refusals.specs.declared.Asked.{Asked}
 use Rattle.words.specs.declared.Written.{Written}
 use Rattle.products.specs.Product.{generators}
 use Rattle.lists.specs.Questions.{ofList, question11}

@@ -5,10 +5,10 @@ use lib.Dec.{leb, eqb}
 use lib.ListN.{length}
 use Rattle.limits.specs.Limits.{mostGenerators, mostOfGenerator, mostOfList}
 use Rattle.words.specs.Word.{Word, nf}
-use Rattle.words.specs.Bytes.{pick}
-use Rattle.words.specs.Questions.{asks, firstNo, question8, question10}
-use Rattle.words.specs.declared.Refusal.the-variants.{TooManyGenerators, EndsWrong, GeneratorTooLong}
-use Rattle.words.specs.declared.Asked.{Asked}
+use Rattle.refusals.specs.Telling.{pick}
+use Rattle.refusals.specs.Questions.{asks, firstNo, question8, question10}
+use Rattle.refusals.specs.declared.Refusal.the-variants.{TooManyGenerators, EndsWrong, GeneratorTooLong}
+use Rattle.refusals.specs.declared.Asked.{Asked}
 
 -- 7: "Are there at most 64 generators?"
 abbrev pub question7 : ℕ → Asked

@@ -3,8 +3,8 @@ use mathlib.Core.Path.{_≡_}
 use mathlib.Core.List.{List, []}
 use Prim.Native.Nat.{ℕ, _≤_}
 use lib.ListN.{length}
-use Rattle.words.specs.Questions.{firstOther}
-use Rattle.words.specs.declared.Asked.the-variants.{Passed}
+use Rattle.refusals.specs.Questions.{firstOther}
+use Rattle.refusals.specs.declared.Asked.the-variants.{Passed}
 use Rattle.lists.specs.Questions.{ofList}
 
 -- every byte is a letter

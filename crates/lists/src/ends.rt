@@ -1,13 +1,13 @@
 // The questions about a list's ends, and about the letters of a list and a target together.
+use slices::widening::wide;
 use words::Asked;
 use words::Refusal;
-use words::widening::wide;
 ghost use mathlib.Core.Path.{_≡_};
 ghost use mathlib.Core.List.{_++_};
 ghost use Prim.Native.Nat.{_+_, _*_, _≤_};
 ghost use lib.ListN.{length};
 ghost use Rattle.limits.specs.Limits.{mostLetters};
-ghost use Rattle.words.specs.Questions.{question10};
+ghost use Rattle.refusals.specs.Questions.{question10};
 ghost use Rattle.lists.specs.Questions.{firstFall, lastEnd, question9};
 
 // The index of the first end that is below the one before it, or the number of ends.
@@ -56,11 +56,11 @@ pub(crate) fn of_all_letters(bytes: &[u8], target: &[u8]) -> Asked
     requires { ⌜ length (now bytes) + length (now target) ≤ 2 * mostLetters ⌝ }
     ensures { λ r. ⌜ r ≡ question10 (now (bytes .entry) ++ now (target .entry)) ⌝ }
 {
-    let first = words::questions::first_other(bytes);
+    let first = refusals::first_other(bytes);
     if first < bytes.len() {
         return Asked::Refused(Refusal::NotALetter(first));
     }
-    let second = words::questions::first_other(target);
+    let second = refusals::first_other(target);
     if second < target.len() {
         return Asked::Refused(Refusal::NotALetter(first + second));
     }

@@ -1,9 +1,9 @@
 // The generators of a list, reduced one after the other. A list is here one that has passed questions 7 to 10.
 use limits::GENERATOR_LETTERS;
 use limits::LIST_LETTERS;
+use slices::widening::wide;
 use words::Letters;
 use words::Written;
-use words::widening::wide;
 ghost use mathlib.Core.Path.{_≡_};
 ghost use Prim.Native.Nat.{_+_, _≤_, _<_};
 ghost use lib.ListN.{length, take};
@@ -11,7 +11,7 @@ ghost use lib.Seq.{slice, paste};
 ghost use Rattle.limits.specs.Limits.{mostLetters, mostOfList};
 ghost use Rattle.words.specs.Word.{nf};
 ghost use Rattle.words.specs.Bytes.{bytes as bytesOf, word};
-ghost use Rattle.words.specs.Slices.{overwritten};
+ghost use Rattle.slices.specs.Slices.{overwritten};
 ghost use Rattle.products.specs.Product.{generators};
 ghost use Rattle.lists.specs.Questions.{firstLong};
 ghost use Rattle.lists.specs.NormalList.{total, normalBytes, normalEnds};

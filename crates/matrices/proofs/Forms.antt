@@ -15,12 +15,12 @@ use borrow.Author.Tests.{le-leb, lt-leb}
 use Rattle.limits.specs.Limits.{mostOfForm}
 use Rattle.words.specs.Word.{Letter, Word}
 use Rattle.words.specs.Bytes.{letter, word}
-use Rattle.words.specs.Questions.{asks, firstNo}
-use Rattle.words.specs.declared.Refusal.{Refusal}
-use Rattle.words.specs.declared.Refusal.the-variants.{NormalFormTooLong, MatrixTooLarge}
-use Rattle.words.specs.declared.Asked.{Asked}
-use Rattle.words.specs.declared.Asked.the-variants.{Passed, Refused}
-use Rattle.words.proofs.Asking.{first-no-one}
+use Rattle.refusals.specs.Questions.{asks, firstNo}
+use Rattle.refusals.specs.declared.Refusal.{Refusal}
+use Rattle.refusals.specs.declared.Refusal.the-variants.{NormalFormTooLong, MatrixTooLarge}
+use Rattle.refusals.specs.declared.Asked.{Asked}
+use Rattle.refusals.specs.declared.Asked.the-variants.{Passed, Refused}
+use Rattle.refusals.proofs.Asking.{first-no-one}
 use Rattle.unimodular.specs.Matrix.{Matrix, times, matrixOfLetter, matrixOf, signed}
 use Rattle.unimodular.proofs.Product.{matrixOf-snoc}
 use Rattle.matrices.specs.Entries.{matrix, entries}

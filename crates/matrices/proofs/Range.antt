@@ -10,13 +10,13 @@ use lib.IntN.{ℤ, pos, negsuc, natAbs}
 use lib.Signed.{ltZ}
 use borrow.Author.Tests.{ltb-true, ltb-false, lt-leb, le-leb, leb-true, ne-eqb, eq-eqb, eqb-true}
 use Rattle.unimodular.specs.Matrix.{Matrix, determinant}
-use Rattle.words.specs.Bytes.{pick}
-use Rattle.words.specs.Questions.{asks, firstNo}
-use Rattle.words.specs.declared.Refusal.{Refusal}
-use Rattle.words.specs.declared.Refusal.the-variants.{EntryTooLarge, DeterminantNotOne, MatrixTooLarge}
-use Rattle.words.specs.declared.Asked.{Asked}
-use Rattle.words.specs.declared.Asked.the-variants.{Passed, Refused}
-use Rattle.words.proofs.Asking.{asks-passed, first-no-one, first-no-head}
+use Rattle.refusals.specs.Telling.{pick}
+use Rattle.refusals.specs.Questions.{asks, firstNo}
+use Rattle.refusals.specs.declared.Refusal.{Refusal}
+use Rattle.refusals.specs.declared.Refusal.the-variants.{EntryTooLarge, DeterminantNotOne, MatrixTooLarge}
+use Rattle.refusals.specs.declared.Asked.{Asked}
+use Rattle.refusals.specs.declared.Asked.the-variants.{Passed, Refused}
+use Rattle.refusals.proofs.Asking.{asks-passed, first-no-one, first-no-head}
 use Rattle.matrices.specs.Questions.{largestEntry, inRange, question5, isOne, question6, question16, ofEntries}
 
 -- ---- one entry

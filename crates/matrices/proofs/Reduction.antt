@@ -5,10 +5,10 @@ use Prim.Native.Nat.{ℕ}
 use lib.ListN.{length}
 use Rattle.words.specs.Word.{nf}
 use Rattle.words.specs.Bytes.{word}
-use Rattle.words.specs.Questions.{firstNo, question8, question10, question12, ofLetters}
-use Rattle.words.specs.declared.Refusal.{Refusal}
-use Rattle.words.specs.declared.Asked.the-variants.{Passed, Refused}
-use Rattle.words.proofs.Asking.{first-no-passed, first-no-refused}
+use Rattle.refusals.specs.Questions.{firstNo, question8, question10, question12, ofLetters}
+use Rattle.refusals.specs.declared.Refusal.{Refusal}
+use Rattle.refusals.specs.declared.Asked.the-variants.{Passed, Refused}
+use Rattle.refusals.proofs.Asking.{first-no-passed, first-no-refused}
 use Rattle.unimodular.specs.Matrix.{Matrix, matrixOf, signed}
 use Rattle.unimodular.proofs.Product.{determinant-word}
 use Rattle.unimodular.proofs.Faithful.{normal-form-of-word}

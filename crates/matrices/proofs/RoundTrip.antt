@@ -13,18 +13,17 @@ use borrow.Author.Tests.{le-leb, leb-true}
 use Rattle.limits.specs.Limits.{mostLetters, mostOfForm}
 use Rattle.words.specs.Word.{Word, nf}
 use Rattle.words.specs.Bytes.{word, bytes}
-use Rattle.words.specs.Questions.{firstNo, firstOther, question8, question10, question12, ofLetters}
-use Rattle.words.specs.Slices.{overwritten, written}
-use Rattle.words.specs.Calls.{lengthOr}
+use Rattle.refusals.specs.Questions.{firstNo, firstOther, question8, question10, question12, ofLetters}
+use Rattle.slices.specs.Slices.{overwritten}
+use Rattle.words.specs.Calls.{written, lengthOr}
 use Rattle.words.specs.declared.Letters.{Letters}
-use Rattle.words.specs.declared.Refusal.the-variants.{TooManyLetters, NotALetter, NormalFormTooLong}
-use Rattle.words.specs.declared.Asked.{Asked}
-use Rattle.words.specs.declared.Asked.the-variants.{Passed, Refused}
+use Rattle.refusals.specs.declared.Refusal.the-variants.{TooManyLetters, NotALetter, NormalFormTooLong}
+use Rattle.refusals.specs.declared.Asked.{Asked}
+use Rattle.refusals.specs.declared.Asked.the-variants.{Passed, Refused}
 use Rattle.words.specs.declared.Written.{Written}
 use Rattle.words.specs.declared.Written.the-variants.{Length}
-use Rattle.words.proofs.Asking.{asks-yes, asks-passed, first-no-head, first-no-tail, first-no-one}
-use Rattle.words.proofs.Bytes.{word-bytes, length-bytes}
-use Rattle.words.proofs.FirstOther.{first-other-bytes}
+use Rattle.refusals.proofs.Asking.{asks-yes, asks-passed, first-no-head, first-no-tail, first-no-one}
+use Rattle.words.proofs.Bytes.{word-bytes, length-bytes, first-other-bytes}
 use Rattle.words.proofs.NormalForm.{nf-of-normal}
 use Rattle.unimodular.specs.Matrix.{Matrix, UpToSign, matrixOf, signed, NormalFormOf}
 use Rattle.unimodular.proofs.Integers.{natAbs-negℤ}

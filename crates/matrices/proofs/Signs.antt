@@ -8,7 +8,7 @@ use mathlib.Core.Logic.{inl, inr}
 use mathlib.Core.Bool.{Bool, true, false, not, true≢false, false≢true}
 use Prim.Native.Nat.{zero, suc}
 use lib.IntN.{ℤ, pos, negsuc, negℤ, natAbs}
-use Rattle.words.specs.Bytes.{pick}
+use Rattle.refusals.specs.Telling.{pick}
 use Rattle.unimodular.specs.Matrix.{Matrix, negated, determinant, UpToSign, firstPositive, signed}
 use Rattle.unimodular.proofs.Product.{negated-negated}
 use Rattle.unimodular.proofs.Rows.{negative, positive}

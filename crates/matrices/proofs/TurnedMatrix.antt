@@ -12,16 +12,16 @@ use borrow.Author.Tests.{leb-true}
 use Rattle.limits.specs.Limits.{mostOfForm}
 use Rattle.words.specs.Word.{Word}
 use Rattle.words.specs.Bytes.{bytes}
-use Rattle.words.specs.Questions.{asks, firstNo, question12, question14}
-use Rattle.words.specs.Slices.{written}
+use Rattle.refusals.specs.Questions.{asks, firstNo, question12, question14}
+use Rattle.words.specs.Calls.{written}
 use Rattle.words.specs.declared.Letters.{Letters}
-use Rattle.words.specs.declared.Refusal.{Refusal}
-use Rattle.words.specs.declared.Refusal.the-variants.{DeterminantNotOne, NormalFormTooLong}
-use Rattle.words.specs.declared.Asked.{Asked}
-use Rattle.words.specs.declared.Asked.the-variants.{Passed, Refused}
+use Rattle.refusals.specs.declared.Refusal.{Refusal}
+use Rattle.refusals.specs.declared.Refusal.the-variants.{DeterminantNotOne, NormalFormTooLong}
+use Rattle.refusals.specs.declared.Asked.{Asked}
+use Rattle.refusals.specs.declared.Asked.the-variants.{Passed, Refused}
 use Rattle.words.specs.declared.Written.{Written}
 use Rattle.words.specs.declared.Written.the-variants.{Length, Refused as Written·Refused}
-use Rattle.words.proofs.Asking.{passed-not-refused, asks-passed, first-no-head}
+use Rattle.refusals.proofs.Asking.{passed-not-refused, asks-passed, first-no-head}
 use Rattle.words.proofs.Answering.{refused-of-answer, passed-of-answer, take-overwritten}
 use Rattle.words.proofs.Bytes.{length-bytes}
 use Rattle.unimodular.specs.Matrix.{Matrix, determinant, NormalFormOf}

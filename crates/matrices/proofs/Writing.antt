@@ -11,13 +11,12 @@ use borrow.Author.Tests.{le-leb, lt-leb}
 use Rattle.limits.specs.Limits.{mostOfForm}
 use Rattle.words.specs.Word.{Word}
 use Rattle.words.specs.Bytes.{bytes}
-use Rattle.words.specs.Questions.{asks, firstNo}
-use Rattle.words.specs.Slices.{written}
-use Rattle.words.specs.Calls.{lengthOr}
-use Rattle.words.specs.declared.Refusal.{Refusal}
-use Rattle.words.specs.declared.Refusal.the-variants.{NormalFormTooLong, OutputTooShort}
-use Rattle.words.specs.declared.Asked.{Asked}
-use Rattle.words.specs.declared.Asked.the-variants.{Passed, Refused}
+use Rattle.refusals.specs.Questions.{asks, firstNo}
+use Rattle.words.specs.Calls.{written, lengthOr}
+use Rattle.refusals.specs.declared.Refusal.{Refusal}
+use Rattle.refusals.specs.declared.Refusal.the-variants.{NormalFormTooLong, OutputTooShort}
+use Rattle.refusals.specs.declared.Asked.{Asked}
+use Rattle.refusals.specs.declared.Asked.the-variants.{Passed, Refused}
 use Rattle.words.specs.declared.Written.{Written}
 use Rattle.words.specs.declared.Written.the-variants.{Refused as Written·Refused}
 use Rattle.words.proofs.Bytes.{length-bytes}

@@ -6,11 +6,10 @@ use lib.ListN.{length}
 use Rattle.unimodular.specs.Matrix.{Matrix, signed, matrixOf, NormalFormOf}
 use Rattle.words.specs.Word.{Word}
 use Rattle.words.specs.Bytes.{word, bytes}
-use Rattle.words.specs.Slices.{written}
-use Rattle.words.specs.Calls.{lengthOr}
-use Rattle.words.specs.declared.Refusal.{Refusal}
-use Rattle.words.specs.declared.Asked.{Asked}
-use Rattle.words.specs.declared.Asked.the-variants.{Passed, Refused}
+use Rattle.words.specs.Calls.{written, lengthOr}
+use Rattle.refusals.specs.declared.Refusal.{Refusal}
+use Rattle.refusals.specs.declared.Asked.{Asked}
+use Rattle.refusals.specs.declared.Asked.the-variants.{Passed, Refused}
 use Rattle.words.specs.declared.Written.{Written}
 use Rattle.words.specs.declared.Written.the-variants.{Refused as Written·Refused}
 use Rattle.matrices.specs.Entries.{entries}

@@ -3,8 +3,8 @@ use mathlib.Core.List.{[], _∷_}
 use lib.ListN.{length}
 use Rattle.unimodular.specs.Matrix.{signed, matrixOf}
 use Rattle.words.specs.Word.{Word}
-use Rattle.words.specs.Questions.{firstNo, question12}
-use Rattle.words.specs.declared.Asked.{Asked}
+use Rattle.refusals.specs.Questions.{firstNo, question12}
+use Rattle.refusals.specs.declared.Asked.{Asked}
 use Rattle.matrices.specs.Questions.{question16}
 
 -- what is asked of a normal form that is to be turned into its matrix

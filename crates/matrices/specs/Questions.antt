@@ -8,10 +8,11 @@ use lib.ListN.{length}
 use Rattle.limits.specs.Limits.{mostOfForm}
 use Rattle.unimodular.specs.Matrix.{Matrix, determinant, signed, matrixOf}
 use Rattle.words.specs.Word.{Word, nf}
-use Rattle.words.specs.Bytes.{pick, word}
-use Rattle.words.specs.Questions.{asks, firstNo, question8, question10, question12, question14}
-use Rattle.words.specs.declared.Refusal.the-variants.{EntryTooLarge, DeterminantNotOne, MatrixTooLarge}
-use Rattle.words.specs.declared.Asked.{Asked}
+use Rattle.refusals.specs.Telling.{pick}
+use Rattle.words.specs.Bytes.{word}
+use Rattle.refusals.specs.Questions.{asks, firstNo, question8, question10, question12, question14}
+use Rattle.refusals.specs.declared.Refusal.the-variants.{EntryTooLarge, DeterminantNotOne, MatrixTooLarge}
+use Rattle.refusals.specs.declared.Asked.{Asked}
 
 abbrev pub largestEntry : ℕ
 largestEntry = 2147483647

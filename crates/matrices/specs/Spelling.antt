@@ -7,8 +7,8 @@ use Rattle.limits.specs.Limits.{mostOfForm}
 use Rattle.unimodular.specs.Matrix.{Matrix, NormalFormOf}
 use Rattle.words.specs.Word.{Word}
 use Rattle.words.specs.Bytes.{bytes}
-use Rattle.words.specs.Questions.{firstNo, question12, question14}
-use Rattle.words.specs.declared.Asked.{Asked}
+use Rattle.refusals.specs.Questions.{firstNo, question12, question14}
+use Rattle.refusals.specs.declared.Asked.{Asked}
 
 -- room for the longest normal form that question 12 lets pass and one part more, by which a longer one is known
 abbrev pub formRoom : ℕ

@@ -10,16 +10,15 @@ mod times_s;
 
 use limits::FORM_ROOM;
 use limits::WORD_LETTERS;
+use slices::copying::copy_at;
 use words::Asked;
 use words::Letters;
 use words::Refusal;
 use words::Written;
-use words::copying::copy_at;
 ghost use mathlib.Core.Path.{_≡_};
 ghost use Prim.Native.Nat.{_≤_};
 ghost use lib.ListN.{length};
-ghost use Rattle.words.specs.Slices.{written};
-ghost use Rattle.words.specs.Calls.{lengthOr};
+ghost use Rattle.words.specs.Calls.{written, lengthOr};
 ghost use Rattle.matrices.specs.Entries.{matrix};
 ghost use Rattle.matrices.specs.Calls.{TurnsWord, TurnsMatrix};
 ghost use Rattle.matrices.specs.Spelling.{formRoom, ofLength};

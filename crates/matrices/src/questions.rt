@@ -6,7 +6,7 @@ ghost use mathlib.Core.Path.{_≡_};
 ghost use Rattle.unimodular.specs.Matrix.{determinant as det};
 ghost use Rattle.matrices.specs.Entries.{matrix};
 ghost use Rattle.matrices.specs.Questions.{inRange, question5, question6, ofEntries};
-ghost use Rattle.words.specs.declared.Asked.the-variants.{Passed};
+ghost use Rattle.refusals.specs.declared.Asked.the-variants.{Passed};
 
 // Question 5: the largest entry, and the smallest.
 const LARGEST: i64 = 2147483647;

@@ -11,7 +11,7 @@ use native.Mathlib.Omega.{arith}
 use lib.Arith.{digits-lt}
 use lib.Dec.{eqb}
 use lib.ListN.{length, drop}
-use Rattle.words.specs.Bytes.{pick}
+use Rattle.refusals.specs.Telling.{pick}
 use Rattle.trees.specs.Tree.{at}
 use Rattle.trees.specs.Bounds.{AtMost, AllAtMost}
 use Rattle.tables.specs.Rules.{place}

@@ -8,7 +8,7 @@ use native.Mathlib.Omega.{arith}
 use lib.Dec.{eqb}
 use lib.ListN.{length}
 use borrow.Rule.Slice.PartMut.{putMid}
-use Rattle.words.specs.Bytes.{pick}
+use Rattle.refusals.specs.Telling.{pick}
 use Rattle.trees.specs.Tree.{at}
 use Rattle.trees.specs.Bounds.{AtMost}
 use Rattle.tables.specs.Rules.{place}

@@ -10,7 +10,7 @@ use native.Mathlib.Omega.{arith}
 use lib.Dec.{eqb}
 use lib.ListN.{length, drop}
 use lib.Seq.{getD-drop, ext-getD}
-use Rattle.words.specs.Bytes.{pick}
+use Rattle.refusals.specs.Telling.{pick}
 use Rattle.trees.specs.Tree.{at}
 use Rattle.tables.specs.Rules.{place}
 use Rattle.rows.specs.Rows.{readNode, readEntry, PathRows, Fits, Filled, Fills}

@@ -14,7 +14,8 @@ use lib.Dec.{eqb}
 use lib.ListN.{length, getD, length-map}
 use borrow.Author.Tests.{eq-eqb, ne-eqb}
 use Rattle.words.specs.Word.{Letter, R, S, Word}
-use Rattle.words.specs.Bytes.{pick, letter, word}
+use Rattle.refusals.specs.Telling.{pick}
+use Rattle.words.specs.Bytes.{letter, word}
 use Rattle.products.specs.State.{State, LeastLead}
 use Rattle.products.proofs.States.{state-tail}
 use Rattle.products.proofs.Exact.{Exact}

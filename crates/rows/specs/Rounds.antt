@@ -4,7 +4,7 @@ use mathlib.Core.List.{List}
 use Prim.Native.Nat.{ℕ, zero, suc, min, _+_, _*_, _≤_, _<_}
 use lib.Dec.{eqb}
 use lib.ListN.{length}
-use Rattle.words.specs.Bytes.{pick}
+use Rattle.refusals.specs.Telling.{pick}
 use Rattle.limits.specs.Limits.{mostFactors}
 use Rattle.trees.specs.Tree.{at}
 use Rattle.trees.specs.Bounds.{AtMost}

@@ -7,7 +7,7 @@ use mathlib.Core.List.{List}
 use Prim.Native.Nat.{ℕ, suc, _+_, _-_, _*_, _≤_, _<_}
 use lib.Dec.{eqb}
 use lib.ListN.{length, drop}
-use Rattle.words.specs.Bytes.{pick}
+use Rattle.refusals.specs.Telling.{pick}
 use Rattle.limits.specs.Limits.{mostLetters, mostFactors, mostStates}
 use Rattle.trees.specs.Tree.{at}
 use Rattle.trees.specs.Bounds.{AllAtMost}

@@ -1,13 +1,13 @@
 // The rows of a target: row i has, for each node q, the least number of factors that make the target's first i letters and then q's word,
 // or n + 1. Each row is made of the one before it and the finished table.
+use slices::widening::wide;
 use trees::entries::lesser;
 use words::Factors;
-use words::widening::wide;
 ghost use mathlib.Core.Path.{_≡_};
 ghost use Prim.Native.Nat.{ℕ, min, _+_, _≤_, _<_};
 ghost use lib.Dec.{eqb};
 ghost use lib.ListN.{length};
-ghost use Rattle.words.specs.Bytes.{pick};
+ghost use Rattle.refusals.specs.Telling.{pick};
 ghost use Rattle.limits.specs.Limits.{mostFactors};
 ghost use Rattle.trees.specs.Tree.{at};
 ghost use Rattle.trees.specs.Bounds.{AtMost};

@@ -1,7 +1,7 @@
 // Whether the inputs fit: the lengths, then the children, then the entries of the table. A test that looks at each entry once.
 use trees::entries::all_at_most;
 use words::Factors;
-ghost use Rattle.words.specs.Telling.{Tells};
+ghost use Rattle.refusals.specs.Telling.{Tells};
 ghost use Rattle.rows.specs.Rows.{Room, Fits};
 
 fn has_room(letters: usize, count: usize, n: Factors, rows: usize) -> bool

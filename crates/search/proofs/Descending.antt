@@ -13,7 +13,8 @@ use lib.ListN.{length, getD, length-map}
 use borrow.Author.Tests.{eq-eqb, ne-eqb}
 use Rattle.limits.specs.Limits.{mostFactors}
 use Rattle.words.specs.Word.{Letter, R, S, Word}
-use Rattle.words.specs.Bytes.{letter, word, pick}
+use Rattle.words.specs.Bytes.{letter, word}
+use Rattle.refusals.specs.Telling.{pick}
 use Rattle.products.proofs.Spelling.{RowMakes, row-start, row-read, row-chain}
 use Rattle.trees.specs.Tree.{at, wordAt, Child}
 use Rattle.tables.specs.Rules.{place}

@@ -1,6 +1,6 @@
 // Whether what is not the table's affair fits: the rows of the target, and the witness.
 use words::Factors;
-ghost use Rattle.words.specs.Telling.{Tells};
+ghost use Rattle.refusals.specs.Telling.{Tells};
 ghost use Rattle.search.specs.Search.{Room};
 
 // A factor is written as a byte.

@@ -5,7 +5,7 @@ use trees::entries::entry;
 ghost use mathlib.Core.Path.{_≡_};
 ghost use Prim.Native.Nat.{ℕ, _+_, _<_};
 ghost use lib.ListN.{length};
-ghost use Rattle.words.specs.Telling.{Tells};
+ghost use Rattle.refusals.specs.Telling.{Tells};
 ghost use Rattle.trees.specs.Tree.{at};
 ghost use Rattle.search.specs.Tight.{Names, Holds, Rests, Children, Counts, RestBy, ChildOf, Same, Middle};
 ghost use Rattle.search.specs.Tight.{TightA, TightB, TightC, TightD, TightE, TightF, TightG, TightOne, TightTwo, Tight, SomeTight};

@@ -15,7 +15,7 @@ pub fn word(bytes: &[u8]) {
 // As document 01's number and place.
 pub fn refusal(refusal: Refusal) {
     io::write_all(1, b"refused ");
-    io::print_decimal(1, words::questions::number(refusal) as u64);
+    io::print_decimal(1, refusals::number(refusal) as u64);
     io::write_all(1, b" ");
-    io::print_decimal(1, words::questions::place(refusal) as u64);
+    io::print_decimal(1, refusals::place(refusal) as u64);
 }

@@ -5,12 +5,12 @@ use Prim.Native.Nat.{ℕ, _*_, _≤_}
 use lib.Dec.{leb}
 use borrow.Author.Tests.{leb-true}
 use Rattle.limits.specs.Limits.{mostOfForm, mostFactors}
-use Rattle.words.specs.Questions.{asks, question12, question14}
-use Rattle.words.specs.declared.Refusal.{Refusal}
-use Rattle.words.specs.declared.Refusal.the-variants.{NormalFormTooLong, BoundTooLarge, OutputTooShort, TableTooShort}
-use Rattle.words.specs.declared.Asked.{Asked}
-use Rattle.words.specs.declared.Asked.the-variants.{Passed}
-use Rattle.words.proofs.Asking.{asks-passed, first-no-one, first-no-head, first-no-tail}
+use Rattle.refusals.specs.Questions.{asks, question12, question14}
+use Rattle.refusals.specs.declared.Refusal.{Refusal}
+use Rattle.refusals.specs.declared.Refusal.the-variants.{NormalFormTooLong, BoundTooLarge, OutputTooShort, TableTooShort}
+use Rattle.refusals.specs.declared.Asked.{Asked}
+use Rattle.refusals.specs.declared.Asked.the-variants.{Passed}
+use Rattle.refusals.proofs.Asking.{asks-passed, first-no-one, first-no-head, first-no-tail}
 use Rattle.sizes.specs.Questions.{side, question13, question15, ofBound, ofTables, ofSizes}
 
 pub record SizesPassed (m t n first second witness : ℕ) : Type 0 where

@@ -9,7 +9,7 @@ use words::Letters;
 use words::Refusal;
 ghost use mathlib.Core.Path.{_≡_};
 ghost use Prim.Native.Nat.{_*_};
-ghost use Rattle.words.specs.Questions.{question12};
+ghost use Rattle.refusals.specs.Questions.{question12};
 ghost use Rattle.sizes.specs.Questions.{side, question15, ofBound, ofTables, ofSizes};
 ghost use Rattle.sizes.specs.Zeroing.{Zeroes};
 

@@ -2,7 +2,7 @@
 ghost use mathlib.Core.Path.{_≡_};
 ghost use Prim.Native.Nat.{_≤_};
 ghost use lib.ListN.{length, replicate};
-ghost use Rattle.words.specs.Slices.{overwritten};
+ghost use Rattle.slices.specs.Slices.{overwritten};
 
 // The first `count` entries of a table become 0; the others remain.
 pub(crate) fn zero(table: &mut [u16], count: usize)

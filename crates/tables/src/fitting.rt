@@ -4,7 +4,7 @@ use trees::entries::entry;
 use words::Factors;
 ghost use Prim.Native.Nat.{_≤_, _<_};
 ghost use lib.ListN.{length};
-ghost use Rattle.words.specs.Telling.{Tells};
+ghost use Rattle.refusals.specs.Telling.{Tells};
 ghost use Rattle.trees.specs.Tree.{Shape};
 ghost use Rattle.tables.specs.Filling.{Fits};
 ghost use Rattle.tables.specs.Nodes.{Room, AllBelow, RestsEarlier, Followed, ChildAgrees, RestAgrees, Agrees, Agree, Linked};

@@ -3,7 +3,7 @@ use trees::entries::entry;
 ghost use mathlib.Core.Path.{_≡_};
 ghost use Prim.Native.Nat.{_+_, _*_, _≤_, _<_};
 ghost use lib.ListN.{length};
-ghost use Rattle.words.specs.Telling.{Tells};
+ghost use Rattle.refusals.specs.Telling.{Tells};
 ghost use Rattle.trees.specs.Tree.{mostOfEntry};
 ghost use Rattle.tables.specs.Rules.{place};
 ghost use Rattle.tables.specs.Nodes.{Finds, Noted, Begins, Front};

@@ -8,7 +8,8 @@ use native.Mathlib.Decide.{ℕ-discrete}
 use native.Mathlib.Omega.{arith}
 use lib.ListN.{length}
 use Rattle.words.specs.Word.{Letter, R, S, Word}
-use Rattle.words.specs.Bytes.{letter, byte, pick}
+use Rattle.words.specs.Bytes.{letter, byte}
+use Rattle.refusals.specs.Telling.{pick}
 use Rattle.words.proofs.Bytes.{letter-byte}
 use Rattle.products.specs.State.{State}
 use Rattle.trees.specs.Tree.{at, wordAt, Child, Tree}

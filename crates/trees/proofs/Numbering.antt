@@ -8,7 +8,7 @@ use native.Mathlib.Decide.{decLt}
 use native.Mathlib.Omega.{arith}
 use lib.ListN.{length}
 use Rattle.words.specs.Word.{R, S, Word}
-use Rattle.words.specs.Bytes.{pick}
+use Rattle.refusals.specs.Telling.{pick}
 use Rattle.trees.specs.Tree.{wordAt}
 use Rattle.trees.specs.Numbering.{sameWord, hasWord, withWord, withSuffixes}
 use Rattle.trees.proofs.Behind.{behind, behind-length, behind-old, behind-new}

@@ -1,10 +1,10 @@
 // Entries of slices of 16-bit numbers: a tree, its table and the rows of a target are kept in such slices.
-use words::widening::wide;
+use slices::widening::wide;
 ghost use mathlib.Core.Bool.{true};
 ghost use mathlib.Core.Path.{_≡_};
 ghost use Prim.Native.Nat.{_≤_, min};
 ghost use lib.ListN.{length};
-ghost use Rattle.words.specs.Telling.{Tells};
+ghost use Rattle.refusals.specs.Telling.{Tells};
 ghost use Rattle.trees.specs.Tree.{at, mostOfEntry};
 ghost use Rattle.trees.specs.Bounds.{AtMost, AllAtMost};
 

@@ -2,7 +2,7 @@
 use crate::entries;
 use crate::entries::entry;
 ghost use mathlib.Core.Path.{_≡_};
-ghost use Rattle.words.specs.Telling.{Tells};
+ghost use Rattle.refusals.specs.Telling.{Tells};
 ghost use Rattle.trees.specs.Building.{Fits};
 ghost use Rattle.trees.specs.Ends.{endBefore, EndFits, EndsFit};
 

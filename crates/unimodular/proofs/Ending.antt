@@ -8,7 +8,7 @@ use mathlib.Core.Logic.{_⊎_, inl, inr}
 use mathlib.Core.Bool.{Bool, true, false, _&&_, false≢true}
 use Prim.Native.Nat.{ℕ, _≤_}
 use lib.IntN.{natAbs}
-use Rattle.words.specs.Bytes.{pick}
+use Rattle.refusals.specs.Telling.{pick}
 use Rattle.unimodular.specs.Matrix.{Matrix, UpToSign}
 use Rattle.unimodular.proofs.Rows.{isZero, signsAgree, atLeast, Same, isZero-negated, signsAgree-negated, atLeast-negated}
 use Rattle.unimodular.proofs.Rows.{zero-of-test, test-of-zero, same-of-test, test-of-same, le-of-test, test-of-le}

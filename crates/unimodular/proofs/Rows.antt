@@ -10,7 +10,7 @@ use Prim.Native.Nat.{zero, suc, _+_, _≤_, _<_}
 use native.Mathlib.Omega.{arith}
 use lib.Dec.{T, leb, leb→le, le→leb, nleb→lt}
 use lib.IntN.{ℤ, pos, negsuc, negℤ, natAbs, _+ℤ_, +ℤ-comm}
-use Rattle.words.specs.Bytes.{pick}
+use Rattle.refusals.specs.Telling.{pick}
 use Rattle.unimodular.proofs.Integers.{over, under, num, _⊕_, value-is, side, natAbs-parts, natAbs-negℤ, over-negℤ, under-negℤ}
 
 -- ---- the tests

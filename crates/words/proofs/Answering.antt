@@ -10,17 +10,17 @@ use borrow.Author.Tests.{le-leb}
 use Rattle.limits.specs.Limits.{mostLetters}
 use Rattle.words.specs.Word.{Word, nf}
 use Rattle.words.specs.Bytes.{word, bytes}
-use Rattle.words.specs.Questions.{firstOther, question10, question14, ofLetters, ofWord}
-use Rattle.words.specs.Slices.{overwritten, written}
-use Rattle.words.specs.Calls.{lengthOr, Writes}
+use Rattle.refusals.specs.Questions.{firstOther, question10, question14, ofLetters, ofWord}
+use Rattle.slices.specs.Slices.{overwritten}
+use Rattle.words.specs.Calls.{written, lengthOr, Writes}
 use Rattle.words.specs.declared.Letters.{Letters}
-use Rattle.words.specs.declared.Refusal.{Refusal}
-use Rattle.words.specs.declared.Refusal.the-variants.{OutputTooShort}
-use Rattle.words.specs.declared.Asked.{Asked}
-use Rattle.words.specs.declared.Asked.the-variants.{Passed, Refused}
+use Rattle.refusals.specs.declared.Refusal.{Refusal}
+use Rattle.refusals.specs.declared.Refusal.the-variants.{OutputTooShort}
+use Rattle.refusals.specs.declared.Asked.{Asked}
+use Rattle.refusals.specs.declared.Asked.the-variants.{Passed, Refused}
 use Rattle.words.specs.declared.Written.{Written}
 use Rattle.words.specs.declared.Written.the-variants.{Length, Refused as Written·Refused}
-use Rattle.words.proofs.Asking.{asks-yes, yes-first, of-word-room, of-word-refused, of-letters-short}
+use Rattle.refusals.proofs.Asking.{asks-yes, yes-first, of-word-room, of-word-refused, of-letters-short}
 use Rattle.words.proofs.Bytes.{length-bytes}
 
 pub of-word-passes : (w : List ℕ) (needed room : ℕ) → length w ≤ mostLetters → length w ≤ firstOther w → needed ≤ room → ofWord w needed room ≡ Passed

@@ -11,10 +11,10 @@ use lib.ListN.{length, drop, getD}
 use lib.Seq.{drop-cons, drop-length}
 use Rattle.words.specs.Word.{Letter, R, S, Word, Normal}
 use Rattle.words.specs.Bytes.{letter, word}
-use Rattle.words.specs.Telling.{Tells}
+use Rattle.refusals.specs.Telling.{Tells}
 use Rattle.words.specs.Parts.{FromRPart, no-r-part, r-part, FromSPart, no-s-part, s-part, ss-part, Parts}
 use Rattle.words.proofs.Bytes.{letter-r, letter-s}
-use Rattle.words.proofs.Telling.{tells-same}
+use Rattle.refusals.proofs.Telling.{tells-same}
 use Rattle.words.proofs.Reduced.{Reduced, normal-of-reduced, reduced-of-normal}
 
 -- ---- the normal words are the series of parts

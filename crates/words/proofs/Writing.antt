@@ -5,13 +5,13 @@ use Prim.Native.Nat.{ℕ, _*_}
 use lib.ListN.{length, take, length-reverse}
 use Rattle.words.specs.Word.{Word, arrived, nf}
 use Rattle.words.specs.Bytes.{word, bytes}
-use Rattle.words.specs.Questions.{ofWord}
-use Rattle.words.specs.Slices.{overwritten, written}
-use Rattle.words.specs.Calls.{lengthOr, Writes}
+use Rattle.refusals.specs.Questions.{ofWord}
+use Rattle.slices.specs.Slices.{overwritten}
+use Rattle.words.specs.Calls.{written, lengthOr, Writes}
 use Rattle.words.specs.Arrival.{Held}
-use Rattle.words.specs.declared.Refusal.{Refusal}
-use Rattle.words.specs.declared.Asked.{Asked}
-use Rattle.words.specs.declared.Asked.the-variants.{Passed, Refused}
+use Rattle.refusals.specs.declared.Refusal.{Refusal}
+use Rattle.refusals.specs.declared.Asked.{Asked}
+use Rattle.refusals.specs.declared.Asked.the-variants.{Passed, Refused}
 use Rattle.words.specs.declared.Written.{Written}
 use Rattle.words.specs.declared.Written.the-variants.{Length, Refused as Written·Refused}
 use Rattle.words.proofs.Stack.{held-length}

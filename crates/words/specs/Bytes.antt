@@ -1,14 +1,9 @@
 -- Words as bytes. Document 01: "The letter R is the byte 82 and S the byte 83." Assumes nothing: these are definitions.
-use mathlib.Core.Bool.{Bool, true, false}
 use mathlib.Core.List.{List, map}
 use Prim.Native.Nat.{ℕ}
 use lib.Dec.{eqb}
+use Rattle.refusals.specs.Telling.{pick}
 use Rattle.words.specs.Word.{Letter, R, S, Word}
-
--- one of two values, by a test
-abbrev pub pick {ℓ} : {A : Type ℓ} → Bool → A → A → A
-pick true a b = a
-pick false a b = b
 
 abbrev pub byte : Letter → ℕ
 byte R = 82

@@ -5,10 +5,10 @@ use Prim.Native.Nat.{ℕ, _*_}
 use lib.ListN.{length}
 use Rattle.words.specs.Word.{Word, Normal}
 use Rattle.words.specs.Bytes.{word, bytes}
-use Rattle.words.specs.Questions.{ofLetters, ofWord}
-use Rattle.words.specs.Slices.{written}
-use Rattle.words.specs.declared.Asked.{Asked}
-use Rattle.words.specs.declared.Asked.the-variants.{Passed, Refused}
+use Rattle.refusals.specs.Questions.{ofLetters, ofWord}
+use Rattle.slices.specs.Slices.{overwritten}
+use Rattle.refusals.specs.declared.Asked.{Asked}
+use Rattle.refusals.specs.declared.Asked.the-variants.{Passed, Refused}
 use Rattle.words.specs.declared.Written.{Written}
 use Rattle.words.specs.declared.Written.the-variants.{Length, Refused as Written·Refused}
 use Rattle.words.specs.declared.Tested.{Tested}
@@ -18,6 +18,11 @@ use Rattle.words.specs.declared.Tested.the-variants.{Normal as Tested·N
 abbrev pub lengthOr : Asked → ℕ → Written
 lengthOr Passed n = Length (record { 0 = n })
 lengthOr (Refused refusal) n = Written·Refused refusal
+
+-- 01: "every lent slice remains" after a no; else the new front, "and the bytes behind the written word remain"
+abbrev pub written : Asked → List ℕ → List ℕ → List ℕ
+written Passed new old = overwritten new old
+written (Refused refusal) new old = old
 
 -- A call that writes f of the word w, with room for k times w's length asked for: reduction (f is the normal form, k is 1) and
 -- inversion (f is the normal form of the inverse, k is 2). `before` and `after` are what the lent slice holds.

@@ -1,18 +1,18 @@
 // Words in R and S, where RR and SSS vanish and no other rule holds: reduction to the normal form, inversion, and a test of
 // normality. Every call takes any slices whatever: it answers, or refuses by document 01's questions and changes nothing.
 mod arrival;
-pub mod copying;
 mod normality;
-pub mod questions;
-pub mod widening;
 
+// Callers of words name a refusal by this crate too.
+pub use refusals::Asked;
+pub use refusals::Refusal;
 ghost use mathlib.Core.Path.{_≡_};
 ghost use Prim.Native.Nat.{_≤_};
 ghost use lib.ListN.{length, take};
 ghost use Rattle.limits.specs.Limits.{mostLetters, mostOfInverse};
 ghost use Rattle.words.specs.Word.{nf, inverse};
 ghost use Rattle.words.specs.Bytes.{word as wordOf, bytes};
-ghost use Rattle.words.specs.Slices.{overwritten};
+ghost use Rattle.slices.specs.Slices.{overwritten};
 ghost use Rattle.words.specs.Calls.{Writes, Tests};
 
 // A length in letters. It is never added to a length in factors.
@@ -20,33 +20,6 @@ pub struct Letters(pub u16);
 
 // A length in factors.
 pub struct Factors(pub u16);
-
-// Why a call refuses: the first question answered no, with its place where it names one. `number` and `place` of specs/ give
-// document 01's numbers.
-pub enum Refusal {
-    CardTooLong,
-    BitMapWrong,
-    FieldCut(usize),
-    SpareByte(usize),
-    EntryTooLarge(usize),
-    DeterminantNotOne,
-    TooManyGenerators,
-    TooManyLetters,
-    EndsWrong(usize),
-    NotALetter(usize),
-    GeneratorTooLong(usize),
-    NormalFormTooLong,
-    BoundTooLarge,
-    OutputTooShort,
-    TableTooShort,
-    MatrixTooLarge,
-}
-
-// What a question says of a call's inputs.
-pub enum Asked {
-    Passed,
-    Refused(Refusal),
-}
 
 // The answer of a call that writes a word: the length written.
 pub enum Written {
@@ -69,7 +42,7 @@ fn write_out(stack: &[u8], len: usize, out: &mut [u8]) -> Written
     ensures { λ r. ⌜ r ≡ Written.Length (record { 0 = len }) ⌝ }
     ensures { λ _. ⌜ now (out .exit) ≡ overwritten (take len (now (stack .entry))) (now (out .entry)) ⌝ }
 {
-    copying::copy_at(&stack[..len], out, 0);
+    slices::copying::copy_at(&stack[..len], out, 0);
     Written::Length(Letters(len as u16))
 }
 
@@ -92,7 +65,7 @@ fn reduce_on(stack: &mut [u8], word: &[u8], out: &mut [u8]) -> Written
 pub fn reduce(word: &[u8], out: &mut [u8]) -> Written
     ensures { λ r. ⌜ Writes nf 1 (now (word .entry)) (now (out .entry)) r (now (out .exit)) ⌝ }
 {
-    match questions::of_word(word, word.len(), out.len()) {
+    match refusals::of_word(word, word.len(), out.len()) {
         Asked::Refused(refusal) => Written::Refused(refusal),
         Asked::Passed => {
             if word.len() <= FEW {
@@ -109,7 +82,7 @@ pub fn reduce(word: &[u8], out: &mut [u8]) -> Written
 pub fn invert(word: &[u8], out: &mut [u8]) -> Written
     ensures { λ r. ⌜ Writes (λ w. nf (inverse w)) 2 (now (word .entry)) (now (out .entry)) r (now (out .exit)) ⌝ }
 {
-    match questions::of_word(word, 2 * word.len(), out.len()) {
+    match refusals::of_word(word, 2 * word.len(), out.len()) {
         Asked::Refused(refusal) => Written::Refused(refusal),
         Asked::Passed => {
             let mut stack = [0u8; limits::INVERSE_ROOM];
@@ -124,7 +97,7 @@ pub fn invert(word: &[u8], out: &mut [u8]) -> Written
 pub fn is_normal(word: &[u8]) -> Tested
     ensures { λ r. ⌜ Tests (now (word .entry)) r ⌝ }
 {
-    match questions::of_letters(word) {
+    match refusals::of_letters(word) {
         Asked::Refused(refusal) => Tested::Refused(refusal),
         Asked::Passed => {
             if normality::normal_from(word, 0) {

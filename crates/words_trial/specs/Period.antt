@@ -3,7 +3,8 @@ use mathlib.Core.List.{List, [], _∷_}
 use Prim.Native.Nat.{ℕ, _+_, _%_}
 use lib.Dec.{eqb}
 use Rattle.words.specs.Word.{S}
-use Rattle.words.specs.Bytes.{pick, byte}
+use Rattle.refusals.specs.Telling.{pick}
+use Rattle.words.specs.Bytes.{byte}
 
 -- what stands at place i, where b stood; a period of 0 puts S nowhere
 abbrev pub byteAt : ℕ → ℕ → ℕ → ℕ

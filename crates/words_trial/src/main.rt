@@ -7,8 +7,8 @@ ghost use Prim.Native.Nat.{_*_};
 ghost use lib.ListN.{length};
 ghost use Rattle.words.specs.Word.{nf, inverse};
 ghost use Rattle.words.specs.Bytes.{word as wordOf, bytes};
-ghost use Rattle.words.specs.Questions.{ofWord};
-ghost use Rattle.words.specs.Slices.{written};
+ghost use Rattle.refusals.specs.Questions.{ofWord};
+ghost use Rattle.words.specs.Calls.{written};
 ghost use Rattle.words_trial.specs.Period.{byteAt, withS};
 
 fn print_written(answer: Written) {

@@ -6,8 +6,8 @@ use native.Mathlib.Nat.{zero-add}
 use lib.Dec.{leb}
 use lib.ListN.{length}
 use borrow.Author.Tests.{le-leb, lt-leb}
-use Rattle.words.specs.Bytes.{pick}
-use Rattle.words.specs.Slices.{overwritten}
+use Rattle.refusals.specs.Telling.{pick}
+use Rattle.slices.specs.Slices.{overwritten}
 use Rattle.answers.specs.Line.{line}
 use Rattle.answers.specs.declared.Lined.the-variants.{Length, TooShort}
 use Rattle.answers.proofs.Storing.{stores-front}

@@ -5,10 +5,10 @@ use Prim.Native.Nat.{ℕ, _≤_}
 use lib.ListN.{length, take}
 use lib.Seq.{length-take-le}
 use Rattle.words.specs.Word.{Word}
-use Rattle.words.specs.Slices.{overwritten}
-use Rattle.words.specs.declared.Refusal.the-variants.{GeneratorTooLong}
+use Rattle.slices.specs.Slices.{overwritten}
+use Rattle.refusals.specs.declared.Refusal.the-variants.{GeneratorTooLong}
 use Rattle.words.specs.declared.Written.the-variants.{Refused as Written·Refused}
-use Rattle.words.proofs.Slices.{pasted-front}
+use Rattle.slices.proofs.Slices.{pasted-front}
 use Rattle.products.specs.Product.{generators}
 use Rattle.products.proofs.Generators.{generators-length}
 use Rattle.lists.specs.Questions.{firstLong}

@@ -4,9 +4,8 @@ use mathlib.Core.List.{List}
 use Prim.Native.Nat.{ℕ, _-_}
 use lib.ListN.{length, take, drop, length-drop}
 use lib.Seq.{take-all}
-use Rattle.words.specs.Slices.{written}
-use Rattle.words.specs.Calls.{lengthOr}
-use Rattle.words.specs.declared.Asked.the-variants.{Passed}
+use Rattle.words.specs.Calls.{written, lengthOr}
+use Rattle.refusals.specs.declared.Asked.the-variants.{Passed}
 use Rattle.matrices.specs.Questions.{ofEntries}
 use Rattle.matrices.specs.Spelling.{formRoom, ofLength}
 use Rattle.matrices.specs.Entries.{matrix}

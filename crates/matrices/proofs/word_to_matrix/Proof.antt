@@ -5,9 +5,9 @@ use lib.ListN.{length, take, length-map}
 use lib.Seq.{length-take-le}
 use Rattle.words.specs.Word.{Word, Normal, nf}
 use Rattle.words.specs.Bytes.{letter, word as wordOf}
-use Rattle.words.specs.declared.Asked.{Asked}
+use Rattle.refusals.specs.declared.Asked.{Asked}
 use Rattle.words.proofs.NormalForm.{nf-normal, nf-length}
-use Rattle.words.proofs.Asking.{of-letters-short}
+use Rattle.refusals.proofs.Asking.{of-letters-short}
 use Rattle.words.proofs.Answering.{reduce-refused, reduce-passed, reduce-length, reduce-form}
 use Rattle.words.proofs.Bytes.{word-bytes}
 use Rattle.unimodular.specs.Matrix.{Matrix, matrixOf, signed}

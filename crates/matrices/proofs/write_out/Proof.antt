@@ -3,10 +3,9 @@ use mathlib.Core.Path.{_≡_, sym, ap, _∙_}
 use mathlib.Core.List.{List}
 use Prim.Native.Nat.{ℕ}
 use lib.ListN.{length}
-use Rattle.words.specs.Slices.{written}
-use Rattle.words.specs.Calls.{lengthOr}
-use Rattle.words.specs.declared.Asked.{Asked}
-use Rattle.words.proofs.Slices.{pasted-front}
+use Rattle.words.specs.Calls.{written, lengthOr}
+use Rattle.refusals.specs.declared.Asked.{Asked}
+use Rattle.slices.proofs.Slices.{pasted-front}
 use Rattle.matrices.specs.Spelling.{ofLength}
 use Rattle.matrices.proofs.Writing.{letters-too-many, room-too-small, letters-and-room}
 use borrow.Author.Needs.{needs}

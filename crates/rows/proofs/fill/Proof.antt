@@ -1,6 +1,6 @@
 -- Where the inputs fit, the rows are filled. Assumes nothing.
 use mathlib.Core.Path.{refl}
-use Rattle.words.proofs.Telling.{told, told-not}
+use Rattle.refusals.proofs.Telling.{told, told-not}
 use borrow.Author.Needs.{needs}
 use Rattle.rows.proofs.fill.Statement.{statement}
 use Rattle.rows.proofs.fill.Tie as tie

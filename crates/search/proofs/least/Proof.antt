@@ -1,6 +1,6 @@
 -- A table that was filled fits the rows, so both are filled, and the last row decides. Assumes nothing.
 use mathlib.Core.Path.{refl}
-use Rattle.words.proofs.Telling.{told, told-not}
+use Rattle.refusals.proofs.Telling.{told, told-not}
 use Rattle.tables.specs.Filling.{Filled}
 use Rattle.search.specs.Search.{Fits}
 use Rattle.search.proofs.Tabulating.{tabulated, right, searches}

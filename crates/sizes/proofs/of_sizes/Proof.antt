@@ -1,6 +1,6 @@
 -- One question after the other. Assumes nothing.
 use mathlib.Core.Path.{refl, sym, _∙_}
-use Rattle.words.proofs.Asking.{first-no-one}
+use Rattle.refusals.proofs.Asking.{first-no-one}
 use borrow.Author.Needs.{needs}
 use Rattle.sizes.proofs.of_sizes.Statement.{statement}
 use Rattle.sizes.proofs.of_sizes.Tie as tie

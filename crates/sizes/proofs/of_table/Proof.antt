@@ -1,7 +1,7 @@
 -- One test. Assumes nothing.
 use mathlib.Core.Path.{sym}
 use borrow.Author.Tests.{le-leb, lt-leb}
-use Rattle.words.proofs.Asking.{asks-yes, asks-no}
+use Rattle.refusals.proofs.Asking.{asks-yes, asks-no}
 use borrow.Author.Needs.{needs}
 use Rattle.sizes.proofs.of_table.Statement.{statement}
 use Rattle.sizes.proofs.of_table.Tie as tie

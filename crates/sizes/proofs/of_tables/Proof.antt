@@ -1,6 +1,6 @@
 -- The first table, and then the second. Assumes nothing.
 use mathlib.Core.Path.{refl, sym, _∙_}
-use Rattle.words.proofs.Asking.{first-no-one}
+use Rattle.refusals.proofs.Asking.{first-no-one}
 use borrow.Author.Needs.{needs}
 use Rattle.sizes.proofs.of_tables.Statement.{statement}
 use Rattle.sizes.proofs.of_tables.Tie as tie

@@ -3,7 +3,7 @@ use mathlib.Core.Path.{refl, sym}
 use Prim.Native.Nat.{_*_}
 use lib.Seq.{length-take-le, length-front}
 use Rattle.tables.proofs.Places.{square-bounded}
-use Rattle.words.proofs.Telling.{told, told-not}
+use Rattle.refusals.proofs.Telling.{told, told-not}
 use Rattle.tables.proofs.Filled.{filled-part}
 use borrow.Author.Needs.{needs}
 use native.Mathlib.Omega.{arith}

@@ -1,6 +1,6 @@
 -- Where the inputs fit, all generators are read, and the tree is theirs. Assumes nothing.
 use mathlib.Core.Path.{refl}
-use Rattle.words.proofs.Telling.{told, told-not}
+use Rattle.refusals.proofs.Telling.{told, told-not}
 use Rattle.trees.proofs.Ends.{fits-same}
 use Rattle.trees.proofs.Listed.{few-nodes, count-nodes, read-tree}
 use borrow.Author.Needs.{needs}

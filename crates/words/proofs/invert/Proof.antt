@@ -4,7 +4,7 @@ use Prim.Native.Nat.{_*_, _≤_}
 use lib.ListN.{length}
 use Rattle.limits.specs.Limits.{mostLetters}
 use Rattle.words.specs.Word.{Word, nf, inverse}
-use Rattle.words.proofs.Asking.{of-word-passed}
+use Rattle.refusals.proofs.Asking.{of-word-passed}
 use Rattle.words.proofs.Writing.{held-writes, writes-nothing, writes-word}
 use native.Mathlib.Omega.{arith}
 use borrow.Author.Needs.{needs}

@@ -2,9 +2,9 @@
 use mathlib.Core.Path.{refl, sym, subst, _∙_}
 use Rattle.words.specs.Bytes.{word as wordOf}
 use Rattle.words.specs.Calls.{TestedRight}
-use Rattle.words.specs.declared.Asked.{Asked}
+use Rattle.refusals.specs.declared.Asked.{Asked}
 use Rattle.words.specs.declared.Tested.the-variants.{Normal as Tested·Normal, NotNormal, Refused as Tested·Refused}
-use Rattle.words.proofs.Telling.{told, told-not}
+use Rattle.refusals.proofs.Telling.{told, told-not}
 use Rattle.words.proofs.Parts.{parts-normal}
 use borrow.Author.Needs.{needs}
 use Rattle.words.proofs.is_normal.Statement.{statement}

@@ -3,7 +3,7 @@ use mathlib.Core.Path.{refl, sym}
 use lib.Seq.{length-take-le}
 use native.Mathlib.Omega.{arith}
 use borrow.Author.Needs.{needs}
-use Rattle.words.proofs.Slices.{pasted-front}
+use Rattle.slices.proofs.Slices.{pasted-front}
 use Rattle.words.proofs.write_out.Statement.{statement}
 use Rattle.words.proofs.write_out.Tie as tie
 

@@ -7,8 +7,8 @@ use lib.ListN.{length}
 use lib.Seq.{length-take-le}
 use denote.Enum.Declared.{tagOf}
 use types.Run.{OneOf, miss}
-use Rattle.words.proofs.Refusal.{the-type}
-use Rattle.words.specs.declared.Refusal.{Refusal}
+use Rattle.refusals.proofs.Refusal.{the-type}
+use Rattle.refusals.specs.declared.Refusal.{Refusal}
 use Rattle.words.specs.declared.Written.the-variants.{Refused as Written·Refused}
 use Rattle.matrices.proofs.TurnedMatrix.{turned-form, turned-length, turned-short}
 use Rattle.cards.proofs.MatrixAnswers.{form-answered, form-too-long, entries-refused}

@@ -6,7 +6,7 @@ use native.Mathlib.Omega.{arith}
 use borrow.Author.Needs.{needs}
 use lib.ListN.{length, take, drop}
 use lib.Seq.{paste}
-use Rattle.words.proofs.Slices.{pasted}
+use Rattle.slices.proofs.Slices.{pasted}
 use Rattle.lists.proofs.FirstOthers.{part-slice}
 use Rattle.cards.specs.Flattening.{GeneratorAt}
 use Rattle.cards.proofs.GeneratorSpans.{Spanned, not-cut, spanned}

@@ -6,7 +6,7 @@ use lib.ListN.{length, take}
 use lib.Seq.{length-take-le}
 use Rattle.words.specs.Word.{Word, nf}
 use Rattle.words.specs.Bytes.{word}
-use Rattle.words.specs.declared.Asked.the-variants.{Passed}
+use Rattle.refusals.specs.declared.Asked.the-variants.{Passed}
 use Rattle.products.specs.Product.{generators}
 use Rattle.products.proofs.Generators.{generators-length}
 use Rattle.lists.specs.Questions.{question11}

@@ -5,7 +5,7 @@ use lib.ListN.{length, take, length-map}
 use lib.Seq.{length-take-le}
 use Rattle.words.specs.Word.{Word, Normal, nf}
 use Rattle.words.specs.Bytes.{letter, word}
-use Rattle.words.proofs.Asking.{passed-not-refused, of-letters-short}
+use Rattle.refusals.proofs.Asking.{passed-not-refused, of-letters-short}
 use Rattle.words.proofs.Answering.{reduce-refused, reduce-length, reduce-form}
 use Rattle.words.proofs.Bytes.{word-bytes}
 use Rattle.words.proofs.NormalForm.{nf-normal, nf-length}

@@ -4,10 +4,10 @@ use mathlib.Core.List.{_++_}
 use Prim.Native.Nat.{_+_, _≤_}
 use lib.ListN.{length, length-append}
 use borrow.Author.Tests.{le-leb, lt-leb}
-use Rattle.words.specs.Questions.{firstOther}
-use Rattle.words.specs.declared.Refusal.the-variants.{NotALetter}
-use Rattle.words.proofs.Asking.{asks-yes, asks-no}
-use Rattle.words.proofs.FirstOther.{first-other-within}
+use Rattle.refusals.specs.Questions.{firstOther}
+use Rattle.refusals.specs.declared.Refusal.the-variants.{NotALetter}
+use Rattle.refusals.proofs.Asking.{asks-yes, asks-no}
+use Rattle.refusals.proofs.FirstOther.{first-other-within}
 use Rattle.lists.proofs.FirstOthers.{first-other-front, first-other-behind}
 use native.Mathlib.Omega.{arith}
 use borrow.Author.Needs.{needs}

@@ -5,8 +5,8 @@ use Prim.Native.Nat.{ℕ, _-_, _≤_}
 use native.Mathlib.Numerals.{add-one}
 use lib.ListN.{length, take, set, getD, length-set}
 use lib.Seq.{length-take-le, take-suc}
-use Rattle.words.specs.Slices.{overwritten}
-use Rattle.words.proofs.Slices.{front-stored}
+use Rattle.slices.specs.Slices.{overwritten}
+use Rattle.slices.proofs.Slices.{front-stored}
 use borrow.Author.Needs.{needs}
 use native.Mathlib.Omega.{arith}
 use Rattle.lists.proofs.reducing.copy_ends.Statement.{statement}

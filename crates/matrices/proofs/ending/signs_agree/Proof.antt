@@ -4,7 +4,7 @@ use mathlib.Core.Bool.{Bool, true, false, not}
 use lib.IntN.{ℤ}
 use mir.Syntax.{w64}
 use mir.ValLaws.{toZ-ofZ}
-use Rattle.words.specs.Bytes.{pick}
+use Rattle.refusals.specs.Telling.{pick}
 use Rattle.unimodular.proofs.Rows.{negative, positive, signsAgree}
 use Rattle.matrices.proofs.Signed.{reading, negative-test, positive-test}
 use Rattle.matrices.proofs.ending.signs_agree.Statement.{statement}

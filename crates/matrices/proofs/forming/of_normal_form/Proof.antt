@@ -4,7 +4,7 @@ use Prim.Native.Nat.{_≤_, _^_}
 use native.Mathlib.Nat.{le-trans}
 use lib.ListN.{length-map}
 use Rattle.words.specs.Bytes.{letter, word as wordOf}
-use Rattle.words.specs.declared.Asked.{Asked}
+use Rattle.refusals.specs.declared.Asked.{Asked}
 use Rattle.words.proofs.Reduced.{reduced-of-normal}
 use Rattle.unimodular.specs.Matrix.{Matrix, matrixOf, signed}
 use Rattle.unimodular.proofs.Descent.{size}

@@ -4,7 +4,7 @@ use native.Mathlib.Omega.{arith}
 use lib.IntN.{_-ℤ_, _*ℤ_}
 use Rattle.unimodular.specs.Matrix.{Matrix, determinant}
 use Rattle.unimodular.proofs.Integers.{natAbs-*ℤ}
-use Rattle.words.specs.declared.Asked.the-variants.{Passed}
+use Rattle.refusals.specs.declared.Asked.the-variants.{Passed}
 use Rattle.matrices.specs.Entries.{matrix}
 use Rattle.matrices.specs.Questions.{question5}
 use Rattle.matrices.proofs.Signed.{reading, Computes, read, product, difference}

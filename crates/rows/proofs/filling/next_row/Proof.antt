@@ -2,7 +2,7 @@
 use mathlib.Core.Path.{sym, ap, subst, _∙_}
 use Prim.Native.Nat.{ℕ, _+_, _*_}
 use lib.Dec.{eqb}
-use Rattle.words.specs.Bytes.{pick}
+use Rattle.refusals.specs.Telling.{pick}
 use Rattle.trees.specs.Tree.{at}
 use Rattle.rows.specs.Rounds.{RoundFits, leastSum}
 use Rattle.rows.proofs.NextRows.{first-low, next-row}

@@ -2,7 +2,7 @@
 use Prim.Native.Nat.{_*_, _≤_}
 use native.Mathlib.Nat.{mul-le-mul}
 use Rattle.limits.specs.Limits.{mostStates}
-use Rattle.words.proofs.Telling.{told, told-not, tells-same}
+use Rattle.refusals.proofs.Telling.{told, told-not, tells-same}
 use borrow.Author.Needs.{needs}
 use native.Mathlib.Omega.{arith}
 use Rattle.rows.proofs.fitting.fits.Statement.{statement}

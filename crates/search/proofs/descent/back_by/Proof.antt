@@ -2,7 +2,7 @@
 use mathlib.Core.Path.{refl}
 use mathlib.Core.List.{[], _∷_}
 use Rattle.search.specs.Descent.{chain}
-use Rattle.words.proofs.Telling.{told, told-not}
+use Rattle.refusals.proofs.Telling.{told, told-not}
 use Rattle.search.proofs.Stacked.{stacked-push}
 use Rattle.search.proofs.Descending.{back-read, back-chain, chained}
 use borrow.Author.Needs.{needs}

@@ -1,7 +1,7 @@
 -- No v so far is the one, and there is one. Assumes nothing.
 use Prim.Native.Nat.{ℕ, _-_, _≤_}
 use Rattle.search.specs.Descent.{Chain}
-use Rattle.words.proofs.Telling.{told, told-not}
+use Rattle.refusals.proofs.Telling.{told, told-not}
 use Rattle.search.proofs.Answers.{later}
 use native.Mathlib.Omega.{arith}
 use Rattle.search.proofs.descent.find_chain.Statement.{statement}

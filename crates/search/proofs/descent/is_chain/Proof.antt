@@ -4,7 +4,7 @@ use Rattle.trees.specs.Tree.{at}
 use Rattle.tables.specs.Rules.{place}
 use Prim.Native.Nat.{ℕ, _+_, _≤_}
 use native.Mathlib.Nat.{mul-le-mul-left}
-use Rattle.words.proofs.Telling.{tells-eqb}
+use Rattle.refusals.proofs.Telling.{tells-eqb}
 use Rattle.search.proofs.Answers.{positive}
 use borrow.Author.Needs.{needs}
 use native.Mathlib.Omega.{arith}

@@ -1,7 +1,7 @@
 -- Whether the letter is read at the node with an entry that is the same. Assumes nothing.
 use Prim.Native.Nat.{_≤_}
 use native.Mathlib.Nat.{mul-le-mul-left}
-use Rattle.words.proofs.Telling.{tells-eqb}
+use Rattle.refusals.proofs.Telling.{tells-eqb}
 use Rattle.search.proofs.Answers.{positive}
 use borrow.Author.Needs.{needs}
 use native.Mathlib.Omega.{arith}

@@ -1,6 +1,6 @@
 -- The sum that rule F asks. Assumes nothing.
 use Prim.Native.Nat.{_+_}
-use Rattle.words.proofs.Telling.{tells-eqb}
+use Rattle.refusals.proofs.Telling.{tells-eqb}
 use borrow.Author.Needs.{needs}
 use native.Mathlib.Omega.{arith}
 use Rattle.search.proofs.tight.is_between.Statement.{statement}

@@ -3,7 +3,7 @@ use mathlib.Core.Path.{refl, ap, _∙_}
 use Prim.Native.Nat.{ℕ, _+_}
 use Rattle.trees.specs.Tree.{at}
 use Rattle.tables.specs.Rules.{place}
-use Rattle.words.proofs.Telling.{tells-eqb}
+use Rattle.refusals.proofs.Telling.{tells-eqb}
 use Rattle.search.proofs.Answers.{names-at, names-none}
 use borrow.Author.Needs.{needs}
 use native.Mathlib.Omega.{arith}

@@ -1,6 +1,6 @@
 -- What rule A asks of a generator. Assumes nothing.
 use mathlib.Core.Path.{sym, _∙_}
-use Rattle.words.proofs.Telling.{tells-eqb}
+use Rattle.refusals.proofs.Telling.{tells-eqb}
 use borrow.Author.Needs.{needs}
 use Rattle.search.proofs.tight.is_whole.Statement.{statement}
 use Rattle.search.proofs.tight.is_whole.Tie as tie

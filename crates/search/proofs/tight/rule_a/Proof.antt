@@ -3,7 +3,7 @@ use Prim.Native.Nat.{ℕ, _-_, _≤_, _<_}
 use lib.ListN.{length}
 use borrow.Author.Count.{below-none, below-more}
 use Rattle.search.specs.Tight.{TightA}
-use Rattle.words.proofs.Telling.{told, told-not}
+use Rattle.refusals.proofs.Telling.{told, told-not}
 use native.Mathlib.Omega.{arith}
 use Rattle.search.proofs.tight.rule_a.Statement.{statement}
 use Rattle.search.proofs.tight.rule_a.Tie as tie

@@ -2,7 +2,7 @@
 use Prim.Native.Nat.{ℕ, _-_, _≤_, _<_}
 use borrow.Author.Count.{below-more}
 use Rattle.tables.specs.Nodes.{Agrees}
-use Rattle.words.proofs.Telling.{told, told-not}
+use Rattle.refusals.proofs.Telling.{told, told-not}
 use borrow.Author.Needs.{needs}
 use native.Mathlib.Omega.{arith}
 use Rattle.tables.proofs.fitting.agree.Statement.{statement}

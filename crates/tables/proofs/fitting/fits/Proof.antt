@@ -1,5 +1,5 @@
 -- Room first, then the shape, and then the children. Assumes nothing.
-use Rattle.words.proofs.Telling.{told, told-not, tells-same}
+use Rattle.refusals.proofs.Telling.{told, told-not, tells-same}
 use Rattle.tables.proofs.Exact.{shape-followed}
 use borrow.Author.Needs.{needs}
 use Rattle.tables.proofs.fitting.fits.Statement.{statement}

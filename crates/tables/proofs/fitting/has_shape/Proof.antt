@@ -1,5 +1,5 @@
 -- Four tests, one for each kind of number. Assumes nothing.
-use Rattle.words.proofs.Telling.{told, told-not, tells-same}
+use Rattle.refusals.proofs.Telling.{told, told-not, tells-same}
 use borrow.Author.Needs.{needs}
 use Rattle.tables.proofs.fitting.has_shape.Statement.{statement}
 use Rattle.tables.proofs.fitting.has_shape.Tie as tie

@@ -1,5 +1,5 @@
 -- Behind node 0 the letter that stands there decides. Assumes nothing.
-use Rattle.words.proofs.Telling.{tells-eqb}
+use Rattle.refusals.proofs.Telling.{tells-eqb}
 use Rattle.tables.specs.Nodes.{Begins}
 use borrow.Author.Needs.{needs}
 use native.Mathlib.Omega.{arith}

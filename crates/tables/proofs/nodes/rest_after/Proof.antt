@@ -1,6 +1,6 @@
 -- Where p's word begins with the letter, its rest is the one node that the letter stands in front of. Assumes nothing.
 use mathlib.Core.Path.{sym, subst}
-use Rattle.words.proofs.Telling.{told, told-not}
+use Rattle.refusals.proofs.Telling.{told, told-not}
 use Rattle.tables.specs.Nodes.{Finds, Front}
 use Rattle.tables.proofs.Finding.{rest-front, no-front}
 use borrow.Author.Needs.{needs}

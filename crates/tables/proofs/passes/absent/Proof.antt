@@ -1,9 +1,9 @@
 -- The answer tells of the places passed so far. Assumes nothing.
 use Prim.Native.Nat.{_-_, _≤_}
 use borrow.Author.Count.{below-more}
-use Rattle.words.specs.Telling.{Tells}
+use Rattle.refusals.specs.Telling.{Tells}
 use Rattle.tables.specs.Levelling.{Without}
-use Rattle.words.proofs.Telling.{tells-same, tells-both}
+use Rattle.refusals.proofs.Telling.{tells-same, tells-both}
 use borrow.Author.Needs.{needs}
 use native.Mathlib.Omega.{arith}
 use Rattle.tables.proofs.passes.absent.Statement.{statement}

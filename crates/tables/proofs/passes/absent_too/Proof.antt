@@ -1,5 +1,5 @@
 -- Where this entry is not among them, the answer so far remains. Assumes nothing.
-use Rattle.words.proofs.Telling.{tells-with}
+use Rattle.refusals.proofs.Telling.{tells-with}
 use native.Mathlib.Omega.{arith}
 use Rattle.tables.proofs.passes.absent_too.Statement.{statement}
 use Rattle.tables.proofs.passes.absent_too.Tie as tie

@@ -7,7 +7,7 @@ use Rattle.tables.specs.Levelling.{Passes, begin, visit}
 use Rattle.tables.proofs.Places.{place-inside, place-past}
 use Rattle.tables.proofs.Visiting.{passes-ready, passes-length, passes-over, passes-low}
 use Rattle.levels.specs.Levels.{entry}
-use Rattle.words.proofs.Telling.{told}
+use Rattle.refusals.proofs.Telling.{told}
 use native.Mathlib.Decide.{decLt}
 use borrow.Author.Needs.{needs}
 use native.Mathlib.Omega.{arith}

@@ -5,7 +5,7 @@ use native.Mathlib.Nat.{le-refl}
 use Rattle.levels.specs.Levels.{entry}
 use Rattle.tables.specs.Rules.{place}
 use Rattle.tables.proofs.Places.{row-inside}
-use Rattle.words.proofs.Telling.{told}
+use Rattle.refusals.proofs.Telling.{told}
 use borrow.Author.Needs.{needs}
 use native.Mathlib.Omega.{arith}
 use Rattle.tables.proofs.passes.seek.Statement.{statement}

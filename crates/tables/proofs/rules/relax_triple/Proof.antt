@@ -4,7 +4,7 @@ use mathlib.Core.Logic.{_⊎_}
 use Prim.Native.Nat.{ℕ, _<_}
 use Rattle.levels.specs.Passes.{Only}
 use Rattle.levels.proofs.Relaxing.{relaxed-none, relaxed-then, lowers-length}
-use Rattle.words.proofs.Telling.{told, told-not}
+use Rattle.refusals.proofs.Telling.{told, told-not}
 use Rattle.tables.specs.Rules.{place}
 use Rattle.tables.proofs.Forward.{rest-inside}
 use Rattle.tables.proofs.Finding.{rest-front, no-front}

@@ -1,5 +1,5 @@
 -- Room first, then the entries. Assumes nothing.
-use Rattle.words.proofs.Telling.{tells-same}
+use Rattle.refusals.proofs.Telling.{tells-same}
 use borrow.Author.Needs.{needs}
 use native.Mathlib.Omega.{arith}
 use Rattle.trees.proofs.entries.all_at_most.Statement.{statement}

@@ -1,5 +1,5 @@
 -- Where this entry is small enough, the answer so far remains. Assumes nothing.
-use Rattle.words.proofs.Telling.{tells-with}
+use Rattle.refusals.proofs.Telling.{tells-with}
 use native.Mathlib.Omega.{arith}
 use Rattle.trees.proofs.entries.at_most_too.Statement.{statement}
 use Rattle.trees.proofs.entries.at_most_too.Tie as tie

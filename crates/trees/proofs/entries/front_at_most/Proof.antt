@@ -1,8 +1,8 @@
 -- The answer tells of the entries passed so far. Assumes nothing.
 use Prim.Native.Nat.{_-_, _≤_}
 use borrow.Author.Count.{below-more}
-use Rattle.words.specs.Telling.{Tells}
-use Rattle.words.proofs.Telling.{tells-same, tells-both}
+use Rattle.refusals.specs.Telling.{Tells}
+use Rattle.refusals.proofs.Telling.{tells-same, tells-both}
 use Rattle.trees.specs.Bounds.{AtMost}
 use borrow.Author.Needs.{needs}
 use native.Mathlib.Omega.{arith}

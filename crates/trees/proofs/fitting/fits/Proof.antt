@@ -1,6 +1,6 @@
 -- Each answer is by the tests on the way. Assumes nothing.
 use lib.ListN.{length}
-use Rattle.words.proofs.Telling.{tells-same}
+use Rattle.refusals.proofs.Telling.{tells-same}
 use Rattle.trees.proofs.Ends.{ends-rise, fits-ends}
 use borrow.Author.Needs.{needs}
 use Rattle.trees.proofs.fitting.fits.Statement.{statement}

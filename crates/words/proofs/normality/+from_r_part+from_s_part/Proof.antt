@@ -4,7 +4,7 @@ use mathlib.Core.List.{_∷_}
 use lib.ListN.{length, drop}
 use Rattle.words.specs.Word.{S, Word}
 use Rattle.words.specs.Bytes.{word as wordOf}
-use Rattle.words.specs.Telling.{Tells}
+use Rattle.refusals.specs.Telling.{Tells}
 use Rattle.words.specs.Parts.{FromRPart}
 use Rattle.words.proofs.Parts.{rest-r, rest-s, rest-none, nothing-from-r, nothing-from-s, s-alone, not-from-r, not-from-s, r-then, s-then-r, ss-then}
 use borrow.Author.Needs.{needs}
