@@ -60,7 +60,7 @@ fn long_members() {
 
 fn nones() {
     show_none(0);
-    show_none(1000);
+    show_none(limits::BOUND);
     show_none(65535);
 }
 

@@ -1,11 +1,8 @@
 -- The witness is measured where there are factors. Assumes nothing.
-use native.Mathlib.Omega.{arith}
 use mathlib.Core.Path.{refl}
 use borrow.Author.Needs.{needs}
 use Rattle.answers.proofs.witnessed.Statement.{statement}
 use Rattle.answers.proofs.witnessed.Tie as tie
-use Rattle.answers.proofs.witnessed.Reads as reads
-use Rattle.answers.proofs.witnessed.Lts as lts
 
 enum-known-answer : tie.Need-enum-known-answer
 enum-known-answer c = search needs

@@ -1,14 +1,9 @@
 -- The witness is asked for the factors, and only then is the line written. Assumes nothing.
-use native.Mathlib.Omega.{arith}
 use mathlib.Core.Path.{sym, _∙_}
 use Rattle.answers.proofs.Room.{factors-missing}
 use borrow.Author.Needs.{needs}
 use Rattle.answers.proofs.write_line.Statement.{statement}
 use Rattle.answers.proofs.write_line.Tie as tie
-use Rattle.answers.proofs.write_line.Reads as reads
-use Rattle.answers.proofs.write_line.Lts as lts
-use Rattle.answers.proofs.witnessed.Reads as witnessed-reads
-use Rattle.answers.proofs.write_witnessed.Reads as write-witnessed-reads
 
 witnessed-requires : tie.Need-witnessed-requires
 witnessed-requires c κs = search needs

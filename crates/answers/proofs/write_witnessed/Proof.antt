@@ -9,9 +9,6 @@ use Rattle.answers.proofs.Storing.{stores-front}
 use borrow.Author.Needs.{needs}
 use Rattle.answers.proofs.write_witnessed.Statement.{statement}
 use Rattle.answers.proofs.write_witnessed.Tie as tie
-use Rattle.answers.proofs.write_witnessed.Reads as reads
-use Rattle.answers.proofs.write_witnessed.Lts as lts
-use Rattle.answers.proofs.writing.line.Reads as line-reads
 
 slice-aggregate-line : tie.Need-slice-aggregate-line
 slice-aggregate-line c = search needs

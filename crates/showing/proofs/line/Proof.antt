@@ -6,10 +6,6 @@ use Rattle.answers.proofs.Room.{line-told}
 use borrow.Author.Needs.{needs}
 use Rattle.showing.proofs.line.Statement.{statement}
 use Rattle.showing.proofs.line.Tie as tie
-use Rattle.showing.proofs.line.Reads as reads
-use Rattle.showing.proofs.line.Lts as lts
-use Rattle.answers.proofs.write_line.Reads as write-line-reads
-use Rattle.io.proofs.write_all.Reads as write-all-reads
 
 slice-aggregate-write-line : tie.Need-slice-aggregate-write-line
 slice-aggregate-write-line c = search needs

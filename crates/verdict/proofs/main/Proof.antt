@@ -5,12 +5,6 @@ use lib.Seq.{length-take-le}
 use borrow.Author.Needs.{needs}
 use Rattle.verdict.proofs.main.Statement.{statement}
 use Rattle.verdict.proofs.main.Tie as tie
-use Rattle.verdict.proofs.main.Reads as reads
-use Rattle.verdict.proofs.main.Lts as lts
-use Rattle.io.proofs.write_all.Reads as write-all-reads
-use Rattle.os.proofs.fail.Reads as fail-reads
-use Rattle.verdict.proofs.answer.Reads as answer-reads
-use Rattle.verdict.proofs.reading.read_card.Reads as read-card-reads
 
 slice-aggregate-read-card : tie.Need-slice-aggregate-read-card
 slice-aggregate-read-card c = search needs

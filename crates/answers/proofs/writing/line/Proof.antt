@@ -1,13 +1,8 @@
 -- What is said, and then the byte that ends the line. Assumes nothing.
-use native.Mathlib.Omega.{arith}
 use Rattle.answers.proofs.Storing.{stores-then}
 use borrow.Author.Needs.{needs}
 use Rattle.answers.proofs.writing.line.Statement.{statement}
 use Rattle.answers.proofs.writing.line.Tie as tie
-use Rattle.answers.proofs.writing.line.Reads as reads
-use Rattle.answers.proofs.writing.line.Lts as lts
-use Rattle.answers.proofs.writing.put_byte.Reads as put-byte-reads
-use Rattle.answers.proofs.writing.said.Reads as said-reads
 
 said-requires : tie.Need-said-requires
 said-requires c κs = search needs

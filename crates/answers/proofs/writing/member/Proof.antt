@@ -4,10 +4,6 @@ use Rattle.answers.proofs.Storing.{stores-then}
 use borrow.Author.Needs.{needs}
 use Rattle.answers.proofs.writing.member.Statement.{statement}
 use Rattle.answers.proofs.writing.member.Tie as tie
-use Rattle.answers.proofs.writing.member.Reads as reads
-use Rattle.answers.proofs.writing.member.Lts as lts
-use Rattle.answers.proofs.writing.put_fields.Reads as put-fields-reads
-use Rattle.answers.proofs.writing.put_named.Reads as put-named-reads
 
 slice-aggregate-put-named : tie.Need-slice-aggregate-put-named
 slice-aggregate-put-named c = search needs

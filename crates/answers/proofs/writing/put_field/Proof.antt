@@ -5,10 +5,6 @@ use Rattle.answers.proofs.Storing.{stores-then}
 use borrow.Author.Needs.{needs}
 use Rattle.answers.proofs.writing.put_field.Statement.{statement}
 use Rattle.answers.proofs.writing.put_field.Tie as tie
-use Rattle.answers.proofs.writing.put_field.Reads as reads
-use Rattle.answers.proofs.writing.put_field.Lts as lts
-use Rattle.answers.proofs.writing.put_byte.Reads as put-byte-reads
-use Rattle.answers.proofs.writing.put_decimal.Reads as put-decimal-reads
 
 put-byte-requires : tie.Need-put-byte-requires
 put-byte-requires c κs = search needs

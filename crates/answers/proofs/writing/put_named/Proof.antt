@@ -4,10 +4,6 @@ use Rattle.answers.proofs.Storing.{stores-then}
 use borrow.Author.Needs.{needs}
 use Rattle.answers.proofs.writing.put_named.Statement.{statement}
 use Rattle.answers.proofs.writing.put_named.Tie as tie
-use Rattle.answers.proofs.writing.put_named.Reads as reads
-use Rattle.answers.proofs.writing.put_named.Lts as lts
-use Rattle.answers.proofs.writing.put.Reads as put-reads
-use Rattle.answers.proofs.writing.put_field.Reads as put-field-reads
 
 put-requires : tie.Need-put-requires
 put-requires c κs = search needs

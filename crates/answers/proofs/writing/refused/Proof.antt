@@ -4,12 +4,6 @@ use Rattle.answers.proofs.Storing.{stores-then}
 use borrow.Author.Needs.{needs}
 use Rattle.answers.proofs.writing.refused.Statement.{statement}
 use Rattle.answers.proofs.writing.refused.Tie as tie
-use Rattle.answers.proofs.writing.refused.Reads as reads
-use Rattle.answers.proofs.writing.refused.Lts as lts
-use Rattle.answers.proofs.writing.put_field.Reads as put-field-reads
-use Rattle.answers.proofs.writing.put_named.Reads as put-named-reads
-use Rattle.words.proofs.questions.number.Reads as number-reads
-use Rattle.words.proofs.questions.place.Reads as place-reads
 
 number-requires : tie.Need-number-requires
 number-requires c κs = search needs

@@ -14,11 +14,6 @@ use borrow.Author.Tests.{leb-true}
 use borrow.Author.Needs.{needs}
 use Rattle.answers.proofs.writing.said.Statement.{statement}
 use Rattle.answers.proofs.writing.said.Tie as tie
-use Rattle.answers.proofs.writing.said.Reads as reads
-use Rattle.answers.proofs.writing.said.Lts as lts
-use Rattle.answers.proofs.writing.member.Reads as member-reads
-use Rattle.answers.proofs.writing.none.Reads as none-reads
-use Rattle.answers.proofs.writing.refused.Reads as refused-reads
 
 -- a member that is witnessed has its factors
 has-factors : {answer : Answer} (witness : List ℕ) (count : Factors) → answer ≡ Member count → witnessed answer witness ≡ true → count .0 ≤ length witness

@@ -6,9 +6,6 @@ use borrow.Author.Needs.{needs}
 use native.Mathlib.Omega.{arith}
 use Rattle.verdict.proofs.reading.read_card.Statement.{statement}
 use Rattle.verdict.proofs.reading.read_card.Tie as tie
-use Rattle.verdict.proofs.reading.read_card.Reads as reads
-use Rattle.verdict.proofs.reading.read_card.Lts as lts
-use Rattle.verdict.proofs.reading.take_turn.Reads as take-turn-reads
 
 abbrev Inv-loop : tie.InvT-loop
 Inv-loop card₀ used₀ card used = (length card ≡ length card₀) × (used ≤ length card)

@@ -2,15 +2,8 @@
 use mathlib.Core.Path.{_≡_}
 use lib.ListN.{length}
 use borrow.Author.Needs.{needs}
-use native.Mathlib.Omega.{arith}
 use Rattle.verdict.proofs.reading.read_ready.Statement.{statement}
 use Rattle.verdict.proofs.reading.read_ready.Tie as tie
-use Rattle.verdict.proofs.reading.read_ready.Reads as reads
-use Rattle.verdict.proofs.reading.read_ready.Lts as lts
-use Rattle.libc.proofs.sched_yield.Reads as sched-yield-reads
-use Rattle.verdict.proofs.reading.read_some.Reads as read-some-reads
-use Rattle.verdict.proofs.reading.seconds.Reads as seconds-reads
-use Rattle.verdict.proofs.reading.settled.Reads as settled-reads
 
 abbrev Inv-loop : tie.InvT-loop
 Inv-loop room₀ second₀ left₀ turns₀ room second left turns = length room ≡ length room₀

@@ -8,9 +8,6 @@ use borrow.Rule.Slice.PartMut.{putMid, mid-len, take-put}
 use borrow.Author.Needs.{needs}
 use Rattle.verdict.proofs.reading.take_turn.Statement.{statement}
 use Rattle.verdict.proofs.reading.take_turn.Tie as tie
-use Rattle.verdict.proofs.reading.take_turn.Reads as reads
-use Rattle.verdict.proofs.reading.take_turn.Lts as lts
-use Rattle.verdict.proofs.reading.read_ready.Reads as read-ready-reads
 
 -- what is put behind the bytes that are there leaves them
 front-stays : (used : ℕ) (card new : List ℕ) → used ≤ length card → take used (putMid used (length card - used) card new) ≡ take used card
@@ -53,7 +50,8 @@ returns : tie.Need-returns
 returns c =
     let start = c .before .before .before .before .before .before .before .before in
     let read = rw (c .before .count .given .1) at (c .before .before .before .before .before .read-ready .ensures) in
-    ((omega (arith, read .0), omega (arith, read .1, mid-len (start .args .used) (length (start .args .card .now)) (start .args .card .now) (omega arith))), front-stays (start .args .used) (start .args .card .now) (c .before .before .before .before .before .read-ready .last .0) (start .pre))
+    let room = mid-len (start .args .used) (length (start .args .card .now)) (start .args .card .now) (omega arith) in
+    ((omega (arith, read .0), omega (arith, read .1, room)), front-stays (start .args .used) (start .args .card .now) (c .before .before .before .before .before .read-ready .last .0) (start .pre))
 
 same-length-2 : tie.Need-same-length-2
 same-length-2 c = search needs
