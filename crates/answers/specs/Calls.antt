@@ -23,7 +23,9 @@ witnessed (Refused refusal) witness = true
 
 -- Three cases: the witness lacks factors; the line is longer than the slice; or the line is written, and the answer is its length.
 abbrev pub lined : Answer → List ℕ → ℕ → Lined
-lined answer witness room = pick (witnessed answer witness) (pick (leb (length (line answer witness)) room) (Length (length (line answer witness))) TooShort) FactorsMissing
+lined answer witness room =
+    let long = length (line answer witness) in
+    pick (witnessed answer witness) (pick (leb long room) (Length long) TooShort) FactorsMissing
 
 -- what becomes of a lent slice: the line goes to its front, or nothing changes
 abbrev pub left : Lined → List ℕ → List ℕ → List ℕ
