@@ -1,19 +1,15 @@
--- Decimal numbers: the digits that `io::decimal` writes are the ones that a line has, they spell the number, and they are few. Assumes nothing.
-use mathlib.Core.Bool.{Bool, cond}
+-- Decimal numbers: a number has the digits of a tenth of it and then its last one; they spell the number, and they are few. Assumes nothing.
+use mathlib.Core.Bool.{Bool}
 use mathlib.Core.Path.{_≡_, refl, sym, ap, _∙_}
 use mathlib.Core.List.{List, [], _∷_, _++_}
 use Prim.Native.Nat.{ℕ, zero, suc, _+_, _-_, _*_, _/_, _%_, _^_, _≤_, _<_}
-use native.Mathlib.Nat.{not-suc-le-zero, pow-suc, one-le-pow}
+use native.Mathlib.Nat.{not-suc-le-zero, pow-suc}
 use native.Mathlib.Omega.{arith}
 use native.Mathlib.Decide.{decLt}
 use lib.ListN.{length, length-append}
-use borrow.Author.Tests.{lt-ltb, le-leb, lt-leb}
+use borrow.Author.Tests.{le-leb, lt-leb}
 use Rattle.refusals.specs.Telling.{pick}
-use Rattle.io.specs.Digits.{glyph, digits, Fewest}
 use Rattle.answers.specs.Line.{lastDigits, decimal}
-
-glyph-of-digit : (n : ℕ) → glyph (n % 10) ≡ 48 + n % 10
-glyph-of-digit n = ap (λ (t : Bool). cond t (48 + n % 10) (87 + n % 10)) (lt-ltb (n % 10) 10 (omega arith))
 
 -- of a number below 10, and of any other
 last-digits-one : (most n : ℕ) → n < 10 → lastDigits (suc most) n ≡ (48 + n % 10) ∷ []
@@ -22,33 +18,28 @@ last-digits-one most n h = ap (λ (t : Bool). pick t (lastDigits most (n / 10)) 
 last-digits-more : (most n : ℕ) → 10 ≤ n → lastDigits (suc most) n ≡ lastDigits most (n / 10) ++ ((48 + n % 10) ∷ [])
 last-digits-more most n h = ap (λ (t : Bool). pick t (lastDigits most (n / 10)) [] ++ ((48 + n % 10) ∷ [])) (le-leb 10 n h)
 
-suc-sub-one : (k : ℕ) → suc k - 1 ≡ k
-suc-sub-one k = omega arith
+-- more room than there are digits changes nothing
+last-digits-same : (more most n : ℕ) → n < more → n < most → lastDigits more n ≡ lastDigits most n
+last-digits-same zero most n h k = absurd (not-suc-le-zero h)
+last-digits-same (suc more) zero n h k = absurd (not-suc-le-zero k)
+last-digits-same (suc more) (suc most) n h k =
+    elim (decLt n 10) [
+      | yes below ↦ last-digits-one more n below ∙ sym (last-digits-one most n below)
+      | no above ↦
+          let many : 10 ≤ n = omega arith in
+          last-digits-more more n many
+          ∙ ap (λ (ds : List ℕ). ds ++ ((48 + n % 10) ∷ [])) (last-digits-same more most (n / 10) (omega arith) (omega arith))
+          ∙ sym (last-digits-more most n many)
+    ]
 
-several-digits : (k n : ℕ) → Fewest 10 1 n (suc (suc k)) → 10 ^ suc k ≤ n
-several-digits k n f = rw (suc-sub-one (suc k)) at (f .2 (omega arith))
+-- a number below 10 has one digit, and any other the digits of a tenth of it and then its last
+pub decimal-one : (n : ℕ) → n < 10 → decimal n ≡ (48 + n % 10) ∷ []
+decimal-one n h = last-digits-one n n h
 
--- a number of several digits has one digit fewer without its last
-fewest-without-last : (k n : ℕ) → Fewest 10 1 n (suc (suc k)) → Fewest 10 1 (n / 10) (suc k)
-fewest-without-last k n f =
-    let low : 10 ^ suc k ≤ n = several-digits k n f in (
-      omega arith,
-      omega (arith, f .1, pow-suc 10 (suc k)),
-      λ h. rw (suc-sub-one k) (omega (arith, low, pow-suc 10 k)),
-    )
-
-fewest-digits : (most k n : ℕ) → n < most → Fewest 10 1 n k → digits 10 k n ≡ lastDigits most n
-fewest-digits zero k n h f = absurd (not-suc-le-zero h)
-fewest-digits (suc most) zero n h f = absurd (not-suc-le-zero (f .0))
-fewest-digits (suc most) (suc zero) n h f = ap (λ (d : ℕ). d ∷ []) (glyph-of-digit n) ∙ sym (last-digits-one most n (f .1))
-fewest-digits (suc most) (suc (suc k)) n h f =
-    let more : 10 ≤ n = omega (arith, several-digits k n f, pow-suc 10 k, one-le-pow k 10 (omega arith)) in
-    ap (λ (ds : List ℕ). ds ++ (glyph (n % 10) ∷ [])) (fewest-digits most (suc k) (n / 10) (omega arith) (fewest-without-last k n f))
-    ∙ ap (λ (d : ℕ). lastDigits most (n / 10) ++ (d ∷ [])) (glyph-of-digit n)
-    ∙ sym (last-digits-more most n more)
-
-pub digits-decimal : (k n : ℕ) → Fewest 10 1 n k → digits 10 k n ≡ decimal n
-digits-decimal k n f = fewest-digits (suc n) k n (omega arith) f
+pub decimal-more : (n : ℕ) → 10 ≤ n → decimal n ≡ decimal (n / 10) ++ ((48 + n % 10) ∷ [])
+decimal-more n h =
+    last-digits-more n n h
+    ∙ ap (λ (ds : List ℕ). ds ++ ((48 + n % 10) ∷ [])) (last-digits-same n (suc (n / 10)) (n / 10) (omega arith) (omega arith))
 
 last-digits-few : (most k n : ℕ) → n < 10 ^ suc k → length (lastDigits most n) ≤ suc k
 last-digits-few zero k n h = omega arith

@@ -2,4 +2,4 @@ pub mod Decimals
 pub mod LineLength
 mod Fields
 mod Storing
-mod Room
+pub mod Room

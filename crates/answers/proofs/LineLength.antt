@@ -1,8 +1,9 @@
--- The line of an answer of at most 1,000 factors has at most 4,096 bytes. Assumes nothing.
+-- The line of an answer that the engine gives is no longer than the longest line. Assumes nothing.
 use mathlib.Core.List.{List, [], _∷_}
-use Prim.Native.Nat.{ℕ, zero, suc, _*_, _≤_, _<_}
+use Prim.Native.Nat.{ℕ, zero, suc, _+_, _*_, _≤_, _<_}
 use native.Mathlib.Omega.{arith}
 use lib.ListN.{length, take, getD, length-append}
+use Rattle.limits.specs.Limits.{mostFactors}
 use Rattle.refusals.specs.Questions.{number, place}
 use Rattle.refusals.specs.declared.Refusal.{Refusal}
 use Rattle.refusals.specs.declared.Refusal.the-variants.{CardTooLong, BitMapWrong, FieldCut, SpareByte, EntryTooLarge, DeterminantNotOne, TooManyGenerators, TooManyLetters, EndsWrong, NotALetter, GeneratorTooLong, NormalFormTooLong, BoundTooLarge, OutputTooShort, TableTooShort, MatrixTooLarge}
@@ -37,8 +38,8 @@ number-two-digits OutputTooShort = omega arith
 number-two-digits TableTooShort = omega arith
 number-two-digits MatrixTooLarge = omega arith
 
--- a thousand factors of three digits have 4,012 bytes
-said-short : (answer : Answer) (witness : List ℕ) → Shown answer witness → length (said answer witness) ≤ 4011
+-- `member`, a count of four digits, and four bytes for each factor
+said-short : (answer : Answer) (witness : List ℕ) → Shown answer witness → length (said answer witness) ≤ 11 + 4 * mostFactors
 said-short (Member count) witness (few, bytes) =
     let factors = fieldsOf (take (count .0) witness) in
     omega (arith, length-append (field (count .0)) factors, decimal-few 3 (count .0) (omega arith), fields-short (count .0) witness bytes)

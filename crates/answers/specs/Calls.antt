@@ -1,9 +1,11 @@
--- What writing and printing an answer's line promise. Assumes nothing: these are definitions.
+-- What writing an answer's line promises. Assumes nothing: these are definitions.
+use mathlib.Core.Bool.{Bool, true}
 use mathlib.Core.Path.{_≡_}
 use mathlib.Core.List.{List}
 use Prim.Native.Nat.{ℕ, _^_, _≤_, _<_}
 use lib.Dec.{leb}
 use lib.ListN.{length, getD}
+use Rattle.limits.specs.Limits.{mostFactors}
 use Rattle.refusals.specs.Telling.{pick}
 use Rattle.refusals.specs.Questions.{place}
 use Rattle.slices.specs.Slices.{overwritten}
@@ -11,29 +13,37 @@ use Rattle.answers.specs.Line.{line}
 use Rattle.answers.specs.declared.Answer.{Answer}
 use Rattle.answers.specs.declared.Answer.the-variants.{Member, None, Refused}
 use Rattle.answers.specs.declared.Lined.{Lined}
-use Rattle.answers.specs.declared.Lined.the-variants.{Length, TooShort}
-use Rattle.answers.specs.declared.Printed.{Printed}
-use Rattle.answers.specs.declared.Printed.the-variants.{Whole, TooLong, Failed}
+use Rattle.answers.specs.declared.Lined.the-variants.{Length, TooShort, FactorsMissing}
 
--- The line goes to the front of the lent slice where there is room, and the answer is its length; else nothing changes.
+-- 01: "For a member the first k witness bytes are the factors". Has the witness as many bytes as the answer counts factors?
+abbrev pub witnessed : Answer → List ℕ → Bool
+witnessed (Member count) witness = leb (count .0) (length witness)
+witnessed (None n) witness = true
+witnessed (Refused refusal) witness = true
+
+-- Three cases: the witness lacks factors; the line is longer than the slice; or the line is written, and the answer is its length.
+abbrev pub lined : Answer → List ℕ → ℕ → Lined
+lined answer witness room =
+    let long = length (line answer witness) in
+    pick (witnessed answer witness) (pick (leb long room) (Length long) TooShort) FactorsMissing
+
+-- what becomes of a lent slice: the line goes to its front, or nothing changes
+abbrev pub left : Lined → List ℕ → List ℕ → List ℕ
+left (Length len) text before = overwritten text before
+left TooShort text before = before
+left FactorsMissing text before = before
+
 pub record WritesLine (answer : Answer) (witness before : List ℕ) (r : Lined) (after : List ℕ) : Type 0 where
-  pub answer-is : r ≡ pick (leb (length (line answer witness)) (length before)) (Length (length (line answer witness))) TooShort
-  pub slice-is : after ≡ pick (leb (length (line answer witness)) (length before)) (overwritten (line answer witness) before) before
+  pub answer-is : r ≡ lined answer witness (length before)
+  pub slice-is : after ≡ left (lined answer witness (length before)) (line answer witness) before
 
--- the bytes of the longest line that is printed
+-- the bytes of the longest line of an answer that the engine gives: `line-short` of proofs/LineLength.antt
 abbrev pub longest : ℕ
 longest = 4096
 
--- A line is refused as too long where it is, and only there. What reaches the output cannot be said in a contract; whether the system took all of it,
--- which tells `Whole` from `Failed`, is the system's.
-abbrev pub Prints : Answer → List ℕ → Printed → Type 0
-Prints answer witness Whole = length (line answer witness) ≤ longest
-Prints answer witness TooLong = longest < length (line answer witness)
-Prints answer witness Failed = length (line answer witness) ≤ longest
-
--- A member of at most 1,000 factors, which is the largest bound that question 13 lets pass, over a witness of bytes; a bound of 16 bits; or a place of
--- 64 bits. By `line-short` of proofs/LineLength.antt the line is not too long.
+-- What the engine gives: a member of no more factors than the largest bound that question 13 lets pass, over a witness of bytes; a bound of 16 bits; or a
+-- place of 64 bits.
 abbrev pub Shown : Answer → List ℕ → Type 0
-Shown (Member count) witness = (count .0 ≤ 1000) × ((i : ℕ) → getD witness i 0 < 256)
+Shown (Member count) witness = (count .0 ≤ mostFactors) × ((i : ℕ) → getD witness i 0 < 256)
 Shown (None n) witness = n .0 ≤ 65535
 Shown (Refused refusal) witness = place refusal < 2 ^ 64

@@ -1,12 +1,14 @@
 // The answer to a query card, and the line that says it.
 mod writing;
 
-// The room that `print` has for a line. An answer of at most 1,000 factors has no longer one: `line-short` of proofs/LineLength.antt.
-const LINE: usize = 4096;
-
 use words::Factors;
 use words::Refusal;
-ghost use Rattle.answers.specs.Calls.{WritesLine, Prints};
+ghost use mathlib.Core.Bool.{true};
+ghost use mathlib.Core.Path.{_≡_};
+ghost use Rattle.answers.specs.Calls.{WritesLine, witnessed as witnessedOf};
+
+// The bytes of the longest line: no answer of at most limits::BOUND factors has a longer one, by `line-short` of proofs/LineLength.antt.
+pub const LINE_BYTES: usize = 4096;
 
 // A member with its count, none with the bound, or the refusal.
 pub enum Answer {
@@ -15,22 +17,26 @@ pub enum Answer {
     Refused(Refusal),
 }
 
-// How long the line is, or that it did not fit.
+// How long the line is; or that the slice is too short for it; or that the witness has fewer bytes than the member has factors.
 pub enum Lined {
     Length(usize),
     TooShort,
+    FactorsMissing,
 }
 
-// What became of a line: the system took it whole; it has more than 4,096 bytes, and nothing was written; or the system took a part of it, or nothing.
-pub enum Printed {
-    Whole,
-    TooLong,
-    Failed,
+// Whether the witness has all factors that the answer counts.
+fn witnessed(answer: Answer, witness: &[u8]) -> bool
+    ensures { λ r. ⌜ r ≡ witnessedOf answer (now (witness .entry)) ⌝ }
+{
+    match answer {
+        Answer::Member(count) => count.0 as usize <= witness.len(),
+        Answer::None(_) => true,
+        Answer::Refused(_) => true,
+    }
 }
 
-// Writes the answer's line to the front of `out`. A member's factors are the first bytes of the witness. A slice of 4,096 bytes has room for the line
-// of every answer of at most 1,000 factors: `line-short` of proofs/LineLength.antt.
-pub fn write_line(answer: Answer, witness: &[u8], out: &mut [u8]) -> Lined
+fn write_witnessed(answer: Answer, witness: &[u8], out: &mut [u8]) -> Lined
+    requires { ⌜ witnessedOf answer (now witness) ≡ true ⌝ }
     ensures { λ r. ⌜ WritesLine answer (now (witness .entry)) (now (out .entry)) r (now (out .exit)) ⌝ }
 {
     // No line fits in one byte: this only measures it.
@@ -42,19 +48,12 @@ pub fn write_line(answer: Answer, witness: &[u8], out: &mut [u8]) -> Lined
     Lined::Length(writing::line(answer, witness, out))
 }
 
-// Writes the answer's line to standard output, in one write. What reaches the output cannot be said in a contract, and whether the system takes it is
-// the system's affair: the promise is that a line is called too long exactly where it is.
-pub fn print(answer: Answer, witness: &[u8]) -> Printed
-    ensures { λ r. ⌜ Prints answer (now (witness .entry)) r ⌝ }
+// Writes the answer's line to the front of `out`. A member's factors are the first bytes of the witness.
+pub fn write_line(answer: Answer, witness: &[u8], out: &mut [u8]) -> Lined
+    ensures { λ r. ⌜ WritesLine answer (now (witness .entry)) (now (out .entry)) r (now (out .exit)) ⌝ }
 {
-    let mut line = [0u8; LINE];
-    match write_line(answer, witness, &mut line) {
-        Lined::TooShort => Printed::TooLong,
-        Lined::Length(len) => {
-            if io::write_all(1, &line[..len]) {
-                return Printed::Whole;
-            }
-            Printed::Failed
-        }
+    if witnessed(answer, witness) {
+        return write_witnessed(answer, witness, out);
     }
+    Lined::FactorsMissing
 }

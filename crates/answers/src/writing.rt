@@ -3,11 +3,14 @@
 use crate::Answer;
 use words::Factors;
 use words::Refusal;
+ghost use mathlib.Core.Bool.{true};
+ghost use mathlib.Core.Path.{_≡_};
 ghost use mathlib.Core.List.{[], _∷_, _++_};
-ghost use Prim.Native.Nat.{_+_, _*_, _^_, _≤_, _<_};
-ghost use lib.ListN.{length, take};
+ghost use Prim.Native.Nat.{_+_, _*_, _%_, _^_, _≤_, _<_};
+ghost use lib.ListN.{length};
 ghost use Rattle.refusals.specs.Questions.{number as numberOf, place as placeOf};
-ghost use Rattle.answers.specs.Line.{field, fieldsOf, memberName, noneName, refusedName, said as saidOf, line as lineOf};
+ghost use Rattle.answers.specs.Line.{decimal, field, fieldsOf, memberName, noneName, refusedName, said as saidOf, line as lineOf};
+ghost use Rattle.answers.specs.Calls.{witnessed};
 ghost use Rattle.answers.specs.Storing.{Stores};
 
 fn put_byte(byte: u8, out: &mut [u8], at: usize) -> usize
@@ -33,16 +36,32 @@ fn put(text: &[u8], out: &mut [u8], at: usize) -> usize
     end
 }
 
-// A space and a number, which has at most 20 digits.
+fn last_digit(n: u64) -> u8
+    ensures { λ r. ⌜ r ≡ 48 + n % 10 ⌝ }
+{
+    48 + (n % 10) as u8
+}
+
+// A number, which has at most 20 digits.
+fn put_decimal(n: u64, out: &mut [u8], at: usize) -> usize
+    requires { ⌜ at + 20 < 2 ^ 32 ⌝ }
+    ensures { λ r. ⌜ Stores (decimal n) at (now (out .entry)) r (now (out .exit)) ⌝ }
+{
+    if n < 10 {
+        return put_byte(last_digit(n), out, at);
+    }
+    let end = put_decimal(n / 10, out, at);
+    put_byte(last_digit(n), out, end)
+}
+
+// A space and a number.
 fn put_field(n: u64, out: &mut [u8], at: usize) -> usize
     requires { ⌜ at + 21 < 2 ^ 32 ⌝ }
     ensures { λ r. ⌜ Stores (field n) at (now (out .entry)) r (now (out .exit)) ⌝ }
     ensures { λ r. ⌜ r ≤ at + 21 ⌝ }
 {
-    let mut digits = [0u8; 20];
-    let k = io::decimal(n, &mut digits);
     let spaced = put_byte(32, out, at);
-    put(&digits[..k], out, spaced)
+    put_decimal(n, out, spaced)
 }
 
 fn put_fields(factors: &[u8], out: &mut [u8], at: usize) -> usize
@@ -59,33 +78,30 @@ fn put_fields(factors: &[u8], out: &mut [u8], at: usize) -> usize
     end
 }
 
-// The first `count` factors of the witness, or all where it has fewer.
-fn put_first(count: usize, witness: &[u8], out: &mut [u8], at: usize) -> usize
-    requires { ⌜ at + 21 * count < 2 ^ 32 ⌝ }
-    ensures { λ r. ⌜ Stores (fieldsOf (take count (now (witness .entry)))) at (now (out .entry)) r (now (out .exit)) ⌝ }
-    ensures { λ r. ⌜ r ≤ at + 21 * count ⌝ }
+// A name and a number.
+fn put_named(name: &[u8], n: u64, out: &mut [u8]) -> usize
+    requires { ⌜ length (now name) < 2 ^ 16 ⌝ }
+    ensures { λ r. ⌜ Stores (now (name .entry) ++ field n) 0 (now (out .entry)) r (now (out .exit)) ⌝ }
+    ensures { λ r. ⌜ r ≤ length (now (name .entry)) + 21 ⌝ }
 {
-    if count < witness.len() {
-        return put_fields(&witness[..count], out, at);
-    }
-    put_fields(witness, out, at)
+    let named = put(name, out, 0);
+    put_field(n, out, named)
 }
 
-fn member(count: Factors, witness: &[u8], out: &mut [u8]) -> usize
-    ensures { λ r. ⌜ Stores (memberName ++ (field (count .0) ++ fieldsOf (take (count .0) (now (witness .entry))))) 0 (now (out .entry)) r (now (out .exit)) ⌝ }
+fn member(factors: &[u8], out: &mut [u8]) -> usize
+    requires { ⌜ length (now factors) < 2 ^ 16 ⌝ }
+    ensures { λ r. ⌜ Stores (memberName ++ (field (length (now (factors .entry))) ++ fieldsOf (now (factors .entry)))) 0 (now (out .entry)) r (now (out .exit)) ⌝ }
     ensures { λ r. ⌜ r < 2 ^ 32 ⌝ }
 {
-    let named = put(b"member", out, 0);
-    let counted = put_field(count.0 as u64, out, named);
-    put_first(count.0 as usize, witness, out, counted)
+    let counted = put_named(b"member", factors.len() as u64, out);
+    put_fields(factors, out, counted)
 }
 
 fn none(n: Factors, out: &mut [u8]) -> usize
     ensures { λ r. ⌜ Stores (noneName ++ field (n .0)) 0 (now (out .entry)) r (now (out .exit)) ⌝ }
     ensures { λ r. ⌜ r < 2 ^ 32 ⌝ }
 {
-    let named = put(b"none", out, 0);
-    put_field(n.0 as u64, out, named)
+    put_named(b"none", n.0 as u64, out)
 }
 
 fn refused(refusal: Refusal, out: &mut [u8]) -> usize
@@ -94,24 +110,28 @@ fn refused(refusal: Refusal, out: &mut [u8]) -> usize
 {
     let number = refusals::number(refusal) as u64;
     let place = refusals::place(refusal) as u64;
-    let named = put(b"refused", out, 0);
-    let numbered = put_field(number, out, named);
+    let numbered = put_named(b"refused", number, out);
     put_field(place, out, numbered)
 }
 
 // What stands before the byte that ends the line.
 fn said(answer: Answer, witness: &[u8], out: &mut [u8]) -> usize
+    requires { ⌜ witnessed answer (now witness) ≡ true ⌝ }
     ensures { λ r. ⌜ Stores (saidOf answer (now (witness .entry))) 0 (now (out .entry)) r (now (out .exit)) ⌝ }
     ensures { λ r. ⌜ r < 2 ^ 32 ⌝ }
 {
     match answer {
-        Answer::Member(count) => member(count, witness, out),
+        Answer::Member(count) => {
+            let k = count.0 as usize;
+            member(&witness[..k], out)
+        }
         Answer::None(n) => none(n, out),
         Answer::Refused(refusal) => refused(refusal, out),
     }
 }
 
 pub(crate) fn line(answer: Answer, witness: &[u8], out: &mut [u8]) -> usize
+    requires { ⌜ witnessed answer (now witness) ≡ true ⌝ }
     ensures { λ r. ⌜ Stores (lineOf answer (now (witness .entry))) 0 (now (out .entry)) r (now (out .exit)) ⌝ }
 {
     let end = said(answer, witness, out);

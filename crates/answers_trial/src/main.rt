@@ -2,20 +2,21 @@
 // `stdout`.
 use answers::Answer;
 use answers::Lined;
-use answers::Printed;
+use showing::Printed;
 use words::Factors;
 use words::Refusal;
 ghost use mathlib.Core.Path.{_≡_};
-ghost use lib.Dec.{leb};
 ghost use lib.ListN.{length};
-ghost use Rattle.refusals.specs.Telling.{pick};
-ghost use Rattle.slices.specs.Slices.{overwritten};
 ghost use Rattle.answers.specs.Line.{line};
+ghost use Rattle.answers.specs.Calls.{lined, left};
 
 // Prints the answer's line, or else why it is not printed.
 fn show(answer: Answer, witness: &[u8]) {
-    match answers::print(answer, witness) {
+    match showing::line(answer, witness) {
         Printed::Whole => {}
+        Printed::FactorsMissing => {
+            io::write_all(1, b"factors missing\n");
+        }
         Printed::TooLong => {
             io::write_all(1, b"too long\n");
         }
@@ -37,7 +38,7 @@ fn show_refused(refusal: Refusal) {
     show(Answer::Refused(refusal), b"");
 }
 
-// The factors are the first bytes of the witness, all of them where it has fewer.
+// The factors are the first bytes of the witness; where it has fewer, there is no line.
 fn short_members() {
     show_member(0, b"");
     show_member(0, b"A");
@@ -49,8 +50,8 @@ fn short_members() {
 
 // Factors of three digits: 1,000 have 4,012 bytes, 1,021 have 4,096, and 1,022 more than are printed.
 fn long_members() {
-    let thousand = [255u8; 1000];
-    show_member(1000, &thousand);
+    let thousand = [255u8; limits::WITNESS_ROOM];
+    show_member(limits::BOUND, &thousand);
     let most = [255u8; 1021];
     show_member(1021, &most);
     let too_many = [255u8; 1022];
@@ -59,7 +60,7 @@ fn long_members() {
 
 fn nones() {
     show_none(0);
-    show_none(1000);
+    show_none(limits::BOUND);
     show_none(65535);
 }
 
@@ -94,12 +95,15 @@ fn print_lined(lined: Lined) {
         Lined::TooShort => {
             io::write_all(1, b"too short");
         }
+        Lined::FactorsMissing => {
+            io::write_all(1, b"factors missing");
+        }
     }
 }
 
 // Says how long the slice is and what `write_line` answers; then the whole slice as it is left, up to a bar.
 fn write(answer: Answer, witness: &[u8], out: &mut [u8])
-    ensures { λ _. ⌜ now (out .exit) ≡ pick (leb (length (line answer (now (witness .entry)))) (length (now (out .entry)))) (overwritten (line answer (now (witness .entry))) (now (out .entry))) (now (out .entry)) ⌝ }
+    ensures { λ _. ⌜ now (out .exit) ≡ left (lined answer (now (witness .entry)) (length (now (out .entry)))) (line answer (now (witness .entry))) (now (out .entry)) ⌝ }
 {
     let lined = answers::write_line(answer, witness, out);
     io::print_decimal(1, out.len() as u64);
@@ -118,6 +122,14 @@ fn member_written() {
     write(Answer::Member(Factors(3)), b"\x00\x0a\xc8", &mut one_short);
     let mut longer = [46u8; 24];
     write(Answer::Member(Factors(3)), b"\x00\x0a\xc8", &mut longer);
+}
+
+// A slice that is long enough for the line of three factors, and a witness that has two.
+fn factors_missing() {
+    let mut longer = [46u8; 24];
+    write(Answer::Member(Factors(3)), b"\x00\x0a", &mut longer);
+    let mut none = [46u8; 0];
+    write(Answer::Member(Factors(1)), b"", &mut none);
 }
 
 fn none_written() {
@@ -159,6 +171,7 @@ fn main() {
     first_refusals();
     last_refusals();
     member_written();
+    factors_missing();
     none_written();
     refused_written();
 }

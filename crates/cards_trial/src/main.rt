@@ -6,7 +6,7 @@ ghost use Prim.Native.Nat.{_+_, _*_};
 // What the program `verdict` lends.
 const ENTRIES: usize = 16384;
 
-const FACTORS: usize = 1000;
+const FACTORS: usize = limits::WITNESS_ROOM;
 
 // The longest card that a length of 16 bits announces.
 const LONGEST: usize = 65535;
@@ -20,7 +20,7 @@ fn print_answer(card: &[u8]) {
     let mut second = [65535u16; ENTRIES];
     let mut witness = [255u8; FACTORS];
     let answer = cards::answer_card(card, &mut first, &mut second, &mut witness);
-    answers::print(answer, &witness);
+    showing::line(answer, &witness);
 }
 
 // A number of two bytes.

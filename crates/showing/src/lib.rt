@@ -1,5 +1,35 @@
-// What the trial programs print with: a word, and a refusal.
+// What the programs print with: the line of an answer, a word, and a refusal. It all goes to standard output by `libc::write`, whose contract is assumed.
+use answers::Answer;
+use answers::LINE_BYTES;
+use answers::Lined;
 use words::Refusal;
+ghost use Rattle.showing.specs.Printing.{Prints};
+
+// What became of a line: the system took it whole; it was not written, since the witness has fewer bytes than the member has factors, or since it has more
+// than answers::LINE_BYTES bytes; or the system took a part of it, or nothing.
+pub enum Printed {
+    Whole,
+    FactorsMissing,
+    TooLong,
+    Failed,
+}
+
+// The answer's line.
+pub fn line(answer: Answer, witness: &[u8]) -> Printed
+    ensures { λ r. ⌜ Prints answer (now (witness .entry)) r ⌝ }
+{
+    let mut text = [0u8; LINE_BYTES];
+    match answers::write_line(answer, witness, &mut text) {
+        Lined::FactorsMissing => Printed::FactorsMissing,
+        Lined::TooShort => Printed::TooLong,
+        Lined::Length(len) => {
+            if io::write_all(1, &text[..len]) {
+                return Printed::Whole;
+            }
+            Printed::Failed
+        }
+    }
+}
 
 // A word of at most twelve bytes, or its first four bytes and how many there are.
 pub fn word(bytes: &[u8]) {
