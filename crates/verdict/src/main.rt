@@ -1,6 +1,7 @@
 // One query card on standard input, one line on standard output. Where no card comes, or the line is not taken, one line on standard error says so: a
 // program ends with no status of its own.
 mod reading;
+mod waiting;
 
 use reading::Card;
 use showing::Printed;

@@ -4,12 +4,13 @@ ghost use mathlib.Core.Path.{_≡_};
 ghost use Prim.Native.Nat.{_≤_};
 ghost use lib.ListN.{length, take};
 ghost use Rattle.verdict.specs.Reading.{Reads, Turns, Ends, settled as settledOf};
+use crate::waiting;
 
-// How long nothing may come: whole seconds of the system's clock.
-const SECONDS: usize = 10;
+// How many pauses may pass in which nothing comes: 10 seconds of them.
+const PAUSES: usize = 1000;
 
 // How many bytes came before the end, or before there was no more room; that a read failed, and then the system's errno says why; or that nothing more came
-// for SECONDS.
+// in all PAUSES.
 pub enum Card {
     Bytes(usize),
     Failed,
@@ -62,36 +63,20 @@ fn settled(got: Got) -> bool
     }
 }
 
-fn seconds() -> i64 {
-    let mut now = 0;
-    libc::time(&mut now)
-}
-
-// Reads until something comes. The clock's second changes once more than SECONDS in as many whole seconds. No machine makes all turns in that time: their
-// number is what shows that the loop ends.
+// Reads until something comes, with a pause after each read that gives nothing yet.
 fn read_ready(room: &mut [u8]) -> Got
     ensures { λ r. ⌜ Reads (length (now (room .entry))) r ⌝ }
 {
-    let mut second = seconds();
-    let mut left = SECONDS;
-    let mut turns = u64::MAX;
-    while turns > 0 {
+    let mut left = PAUSES;
+    while left > 0 {
         let got = read_some(room);
         if settled(got) {
             return got;
         }
-        let now = seconds();
-        if now != second {
-            if left == 0 {
-                return Got::NotYet;
-            }
-            left -= 1;
-            second = now;
-        }
-        libc::sched_yield();
-        turns -= 1;
+        waiting::pause();
+        left -= 1;
     }
-    Got::NotYet
+    read_some(room)
 }
 
 // One read behind the bytes that are there.
