@@ -146,7 +146,8 @@ module _ {M : Type 1} (𝓤 : URA M) (H : Heap 𝓤) (A : Atoms 𝓤) (W : Given
         feqI ! (List Val) (vunit ∷ []) (vunit ∷ []) refl $ nothing ! $ join ! $ nothing ! $ join ! $ frame ! $ done !
 
     goes : (α β b : ℕ) (γ : GName) (c : ℕ) (δ : GName)
-        → ent 𝓤 (⋆ 𝓤 H A (‵ (Token α) ∷ ‵ (Token β) ∷ ‵ (Asked α b γ) ∷ ‵ (Left β c δ) ∷ [])) (Sleep 𝓤 H A at-mem run .pre (to-sleep 𝓤 H A at-mem run α β b γ c δ))
+        → ent 𝓤 (⋆ 𝓤 H A (‵ (Token α) ∷ ‵ (Token β) ∷ ‵ (Asked α b γ) ∷ ‵ (Left β c δ) ∷ []))
+        (Sleep 𝓤 H A at-mem run .pre (to-sleep 𝓤 H A at-mem run α β b γ c δ))
     goes α β b γ c δ =
         qed W (‵ (Token α) ∷ ‵ (Token β) ∷ ‵ (Asked α b γ) ∷ ‵ (Left β c δ) ∷ []) ∵ nothing ! $ move ! (4 ∷ 0 ∷ []) $ join ! $ move ! (3 ∷ 0 ∷ []) $ join ! $
         nothing ! $ move ! (3 ∷ 0 ∷ []) $ join ! $ move ! (2 ∷ 0 ∷ []) $ join ! $ join ! $ frame ! $ done !
@@ -170,7 +171,7 @@ module _ {M : Type 1} (𝓤 : URA M) (H : Heap 𝓤) (A : Atoms 𝓤) (W : Given
           move ! (3 ∷ []) $ use1 W (‵ (partAt R fullShare left l₂ 0)) (into left l₂ left-is) $ lft-new ! tt (λ β. move ! (1 ∷ []) $
           use1 W (later (some (λ (δ : GName). ‵ (Left β l₂ δ) ⊛ ‵ (flent (β ∷ []) (Body (mem R) l₂ 0 δ)))))
           (lends-ref 𝓤 H A W R (named 1) (β ∷ []) left l₂ 0) $ await ! tt $ pick ! (λ δ. split ! $
-          -- [the second reference; its lender's part; β's token; the first reference; its lender's part; α's token; _5; …; _4; …; room for _3; …]: the call
+          -- [the second reference; its lender's part; β's token; the first reference; its lender's part; α's token; _5; …; _4; …; room for _3; …]
           move ! (3 ∷ 0 ∷ []) $ join ! $ move ! (2 ∷ 0 ∷ []) $ join ! $ move ! (3 ∷ 0 ∷ []) $ join ! $
           use1 W (raw (Sleep 𝓤 H A at-mem run .pre (to-sleep 𝓤 H A at-mem run α β l₁ γ l₂ δ))) (goes α β l₁ γ l₂ δ) $
           calls-at ! fm (Sleep 𝓤 H A at-mem run) known (to-sleep 𝓤 H A at-mem run α β l₁ γ l₂ δ)
