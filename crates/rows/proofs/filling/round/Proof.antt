@@ -40,7 +40,7 @@ lower-from-requires c κs =
     let long = l .inv .1 ∙ r .ensures .long in (
       subst (λ (w : ℕ). RoundFits (a .n .0) (a .first .now) (a .table .now) w) (sym long) p,
       (
-        c .before .loop-test .taken,
+        omega arith,
         λ q h.
             let low = p .low q (omega arith) in
             omega (arith, l .inv .2 q (omega arith), sum-low (length (r .last .1 .1 .0)) (a .table .now) (at (a .first .now)) q (l .v)),
