@@ -3,7 +3,7 @@ use mathlib.Core.Path.{_≡_, refl, _∙_}
 use Prim.Native.Nat.{_-_, _≤_}
 use lib.ListN.{length}
 use Rattle.limits.specs.Limits.{mostStates}
-use Rattle.rows.proofs.MadeRows.{Filling, path-rows, filling-begins, filling-more, filling-rest, fits-r, fits-s}
+use Rattle.rows.proofs.MadeRows.{Filling, path-rows, filling-begins, filling-more, filling-rest, row-fits}
 use Rattle.rows.proofs.Parts.{row-inside}
 use borrow.Author.Needs.{needs}
 use native.Mathlib.Omega.{arith}
@@ -47,7 +47,7 @@ read-letter-requires c κs =
     let r = first .copy-row .ensures in
     let l = c .before .before .before .before .loop .inv in
     let here = c .before .before .before .loop-test .taken in
-    (fits-r p r (l .2) here, (fits-s p r (l .2) here, omega (arith, p .room .few, l .1)))
+    (row-fits p r (l .2) here (p .by-r), (row-fits p r (l .2) here (p .by-s), omega (arith, p .room .few, l .1)))
 
 add-i : tie.Need-add-i Inv-loop μ-loop
 add-i c = search needs
