@@ -3,9 +3,11 @@ use mathlib.Core.Path.{_≡_, refl, sym, ap, _∙_}
 use Prim.Native.Nat.{ℕ, _*_, _≤_}
 use lib.ListN.{length, length-map}
 use Rattle.words.specs.Bytes.{letter, word}
+use Rattle.refusals.specs.declared.Asked.{Asked}
 use Rattle.products.specs.Product.{generators}
 use Rattle.sizes.specs.Questions.{side, ofSizes}
 use Rattle.sizes.proofs.Passing.{SizesPassed, sizes-passed}
+use Rattle.engine.specs.Calls.{Lent}
 use Rattle.engine.proofs.Verdicts.{judged-refused, judged-settled}
 use native.Mathlib.Omega.{arith}
 use borrow.Author.Needs.{needs}
@@ -27,6 +29,19 @@ settled c = c .before .before .before .before .before .before .before .before
 
 abbrev zeroed : tie.After-zero-table2 → tie.After-zero-table
 zeroed c = c .before .before .before .before
+
+-- what is lent
+abbrev lent : tie.Start → Lent
+lent s = record { first = s .args .first .now; second = s .args .second .now; witness = s .args .witness .now }
+
+-- what questions 12 to 15 say, and the side of the tables
+abbrev answered : tie.Start → Asked
+answered s =
+    let a = s .args in
+    ofSizes (length (a .letters .now)) (length (word (a .form .now))) (a .n .0) (length (a .first .now)) (length (a .second .now)) (length (a .witness .now))
+
+abbrev q : tie.Start → ℕ
+q s = side (length (s .args .letters .now)) (length (word (s .args .form .now)))
 
 -- the sizes have passed
 asked : (c : tie.After-enum-told)
@@ -64,18 +79,10 @@ zero-table-requires-2 c κs = search needs
 returns : tie.Need-returns
 returns c =
     let sizes = c .before .before .before in
-    let a = begun sizes .args in
-    let letters = a .letters .now in
-    let ends = a .ends .now in
-    let form = a .form .now in
-    let first = a .first .now in
-    let second = a .second .now in
-    let witness = a .witness .now in
-    let m = length letters in
-    let t = length (word form) in
-    judged-refused (ofSizes m t (a .n .0) (length first) (length second) (length witness)) (side m t) (generators letters ends) (word form) (a .n .0)
-    (record { first = first; second = second; witness = witness })
-    (rw (length-map form letter) (sym (sizes .of-sizes .ensures) ∙ c .before .refusal .given .1))
+    let s = begun sizes in
+    let a = s .args in
+    judged-refused (answered s) (q s) (generators (a .letters .now) (a .ends .now)) (word (a .form .now)) (a .n .0) (lent s)
+    (rw (length-map (a .form .now) letter) (sym (sizes .of-sizes .ensures) ∙ c .before .refusal .given .1))
 
 same-length : tie.Need-same-length
 same-length c = search needs
@@ -94,19 +101,10 @@ returns-2 c =
     let d = settled first-zeroed .decide in
     let zero-first = first-zeroed .zero-table in
     let zero-second = second-zeroed .zero-table2 in
-    let a = start told .args in
-    let letters = a .letters .now in
-    let ends = a .ends .now in
-    let form = a .form .now in
-    let first = a .first .now in
-    let second = a .second .now in
-    let witness = a .witness .now in
-    let m = length letters in
-    let t = length (word form) in
-    let same = length-map form letter in
-    judged-settled (ofSizes m t (a .n .0) (length first) (length second) (length witness)) (side m t) (generators letters ends) (word form) (a .n .0)
-    (d .result)
-    (record { first = first; second = second; witness = witness })
+    let s = start told in
+    let a = s .args in
+    let same = length-map (a .form .now) letter in
+    judged-settled (answered s) (q s) (generators (a .letters .now) (a .ends .now)) (word (a .form .now)) (a .n .0) (d .result) (lent s)
     (record { first = d .last .1 .1 .1 .1 .0; second = d .last .1 .1 .1 .1 .1 .0; witness = d .last .1 .1 .1 .1 .1 .1 .0 })
     (record { first = zero-first .last .0; second = zero-second .last .0; witness = d .last .1 .1 .1 .1 .1 .1 .0 })
     (rw same (sym (told .before .before .of-sizes .ensures) ∙ told .enum-told .given .1))
