@@ -5,7 +5,6 @@ use Rattle.tables.specs.Filling.{Filled}
 use Rattle.search.specs.Search.{Fits}
 use Rattle.search.proofs.Tabulating.{tabulated, right, searches}
 use borrow.Author.Needs.{needs}
-use native.Mathlib.Omega.{arith}
 use Rattle.search.proofs.least.Statement.{statement}
 use Rattle.search.proofs.least.Tie as tie
 

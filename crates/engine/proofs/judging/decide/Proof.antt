@@ -1,16 +1,12 @@
 -- A reduced list fits the local slices, so the tree is built and searched. Assumes nothing.
 use mathlib.Core.Path.{_≡_, refl, sym, ap, subst, _∙_}
 use mathlib.Core.List.{List, [], _++_}
-use Prim.Native.Nat.{ℕ, suc, _*_, _≤_}
+use Prim.Native.Nat.{ℕ}
 use lib.ListN.{length, take, drop, replicate, drop-of-length-le}
 use lib.Seq.{length-take-le, length-front, take-at}
 use Rattle.words.specs.Bytes.{word}
 use Rattle.words.proofs.NormalForm.{equal-path}
-use Rattle.products.specs.Product.{generators}
 use Rattle.products.proofs.Verdict.{verdict-empty}
-use Rattle.trees.specs.Numbering.{numbered}
-use Rattle.trees.proofs.Remaining.{drop-later}
-use Rattle.sizes.specs.Questions.{side}
 use Rattle.sizes.proofs.Passing.{SizesPassed, sizes-passed}
 use Rattle.limits.specs.Limits.{mostGenerators, mostStates}
 use Rattle.trees.specs.Building.{Slices, BuildsTree, Builds}

@@ -1,6 +1,6 @@
 -- Where the sizes pass the verdict is settled, and then both tables are zeroed. Assumes nothing.
-use mathlib.Core.Path.{_≡_, refl, sym, ap, _∙_}
-use Prim.Native.Nat.{ℕ, _*_, _≤_}
+use mathlib.Core.Path.{refl, sym, _∙_}
+use Prim.Native.Nat.{ℕ}
 use lib.ListN.{length, length-map}
 use Rattle.words.specs.Bytes.{letter, word}
 use Rattle.refusals.specs.declared.Asked.{Asked}
