@@ -38,7 +38,8 @@ lent s = record { first = s .args .first .now; second = s .args .second .now; wi
 abbrev answered : tie.Start → Asked
 answered s =
     let a = s .args in
-    ofSizes (length (a .letters .now)) (length (word (a .form .now))) (a .n .0) (length (a .first .now)) (length (a .second .now)) (length (a .witness .now))
+    ofSizes (length (a .letters .now)) (length (word (a .form .now))) (a .n .0)
+    (length (a .first .now)) (length (a .second .now)) (length (a .witness .now))
 
 abbrev q : tie.Start → ℕ
 q s = side (length (s .args .letters .now)) (length (word (s .args .form .now)))

@@ -62,7 +62,8 @@ returns-3 c =
     let at-a = at-b .before .before .before .before in
     let a = at-a .before .before .before .before .before .before .before .args in
     let h = holds-pair _ (at-a .a .given .1) (at-a .before .before .rest-and-child .ensures) in
-    let k = subst (λ (y : ℕ). ChildOf (a .children-s .now) y (at-b .b .given .0 .0)) (h .1 .1) (names-at _ (at-b .b .given .1) (at-b .before .before .child .ensures)) in
+    let of-s = names-at _ (at-b .b .given .1) (at-b .before .before .child .ensures) in
+    let k = subst (λ (y : ℕ). ChildOf (a .children-s .now) y (at-b .b .given .0 .0)) (h .1 .1) of-s in
     same-holds (a .count) (a .table .now) (a .x) (a .y) (at-a .a .given .0 .0) (at-b .b .given .0 .0)
     (TightD (a .count) (a .letters .now) (a .rests .now) (a .children-s .now) (a .table .now) (a .x) (a .y)) (c .same .result) (c .same .ensures)
     (λ e. record { rest = h .0; some = omega (arith, h .1 .0, h .1 .1); child = k; same = e })
