@@ -1,9 +1,9 @@
 -- A table that was filled fits the rows of any target that is not too long. Assumes nothing.
-use mathlib.Core.Path.{_≡_, sym}
+use mathlib.Core.Path.{sym}
 use mathlib.Core.List.{List}
-use Prim.Native.Nat.{ℕ, suc, _+_, _-_, _*_, _≤_, _<_}
+use Prim.Native.Nat.{ℕ, suc, _-_, _*_, _≤_, _<_}
 use native.Mathlib.Omega.{arith}
-use lib.ListN.{length, take}
+use lib.ListN.{length}
 use lib.Seq.{getD-take}
 use Rattle.limits.specs.Limits.{mostLetters, mostStates}
 use Rattle.trees.specs.Tree.{at}

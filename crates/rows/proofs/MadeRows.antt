@@ -137,24 +137,12 @@ module _ {count n : ℕ} {childrenR childrenS target table before : List ℕ} (f
       rows-room : suc (suc i) * count ≤ length rows
       rows-room = omega (arith, mul-le-mul-right count (suc-le-suc h), fits .room .rows, f .long, r .long)
 
-      pub fits-r : RowFits count n childrenR table i rows
-      fits-r =
+      pub row-fits : {children : List ℕ} → AllAtMost (count - 1) children count → RowFits count n children table i rows
+      row-fits by =
           record {
             bound = fits .room .bound;
-            children-room = fits .by-r .room;
-            inside = node-inside fits (fits .by-r);
-            table-room = fits .table-low .room;
-            table-low = fits .table-low .low;
-            room = rows-room;
-            low = f .low;
-          }
-
-      pub fits-s : RowFits count n childrenS table i rows
-      fits-s =
-          record {
-            bound = fits .room .bound;
-            children-room = fits .by-s .room;
-            inside = node-inside fits (fits .by-s);
+            children-room = by .room;
+            inside = node-inside fits by;
             table-room = fits .table-low .room;
             table-low = fits .table-low .low;
             room = rows-room;

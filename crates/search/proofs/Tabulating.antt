@@ -1,15 +1,13 @@
 -- The table and then the rows are filled, and what is known then. Assumes nothing.
 use mathlib.Core.Bool.{Bool, true, false}
-use mathlib.Core.Path.{_≡_}
 use mathlib.Core.List.{List}
-use Prim.Native.Nat.{ℕ, suc, _*_, _≤_}
+use Prim.Native.Nat.{ℕ}
 use native.Mathlib.Omega.{arith}
-use lib.ListN.{length}
 use Rattle.words.specs.Word.{Word}
-use Rattle.tables.specs.Filling.{Fits as TableFits, Filled as TableFilled}
+use Rattle.tables.specs.Filling.{Filled as TableFilled}
 use Rattle.rows.specs.Rows.{Fits as RowsFit, Filled as RowsFilled, Fills as FillsRows}
 use Rattle.rows.proofs.FilledFits.{filled-fits}
-use Rattle.search.specs.Search.{Lent, Room, Fits, Posed, Query, Tabulated, Answered, Answers, Right, Searches}
+use Rattle.search.specs.Search.{Lent, Fits, Query, Tabulated, Answered, Answers, Right, Searches}
 use Rattle.search.specs.declared.Found.{Found}
 use Rattle.search.specs.declared.Found.the-variants.{Series, None, Unfit}
 

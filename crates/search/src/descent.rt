@@ -2,7 +2,7 @@
 // read, or such an entry and one of the table's together; then the table's pair is pushed. The pairs come off the stack in the order of the factors.
 use crate::entries::cell;
 use crate::entries::pair_entry;
-use crate::stack::put_pair;
+use crate::stack::set_pair;
 use trees::entries::entry;
 ghost use mathlib.Core.Path.{_≡_};
 ghost use mathlib.Core.List.{List, _++_};
@@ -107,7 +107,7 @@ fn back_by(
         return Place { node: c, height };
     }
     let v = find_chain(children, table, rows, count, i, q);
-    put_pair(xs, ys, height, v, q);
+    set_pair(xs, ys, height, v, q);
     Place {
         node: entry(children, v),
         height: height + 1,

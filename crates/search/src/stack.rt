@@ -17,8 +17,8 @@ pub(crate) struct Top {
     pub(crate) written: usize,
 }
 
-// Puts a pair at some height.
-pub(crate) fn put_pair(xs: &mut [u16], ys: &mut [u16], height: usize, x: usize, y: usize)
+// Sets the pair at some height of the stack.
+pub(crate) fn set_pair(xs: &mut [u16], ys: &mut [u16], height: usize, x: usize, y: usize)
     requires { ⌜ (height < length (now xs)) × (height < length (now ys)) × (x ≤ mostOfEntry) × (y ≤ mostOfEntry) ⌝ }
     ensures { λ _. ⌜ now (xs .exit) ≡ set (now (xs .entry)) height x ⌝ }
     ensures { λ _. ⌜ now (ys .exit) ≡ set (now (ys .entry)) height y ⌝ }
@@ -27,8 +27,8 @@ pub(crate) fn put_pair(xs: &mut [u16], ys: &mut [u16], height: usize, x: usize, 
     ys[height] = y as u16;
 }
 
-// Writes the number of a generator, behind those that are written already.
-fn put_factor(witness: &mut [u8], written: usize, j: usize)
+// Pushes the number of a generator behind those that are written already.
+fn push_factor(witness: &mut [u8], written: usize, j: usize)
     requires { ⌜ (written < length (now witness)) × (j < 256) ⌝ }
     ensures { λ _. ⌜ now (witness .exit) ≡ set (now (witness .entry)) written j ⌝ }
 {
@@ -76,19 +76,19 @@ fn walk_once(
         y,
     ) {
         Step::Factor(j) => {
-            put_factor(witness, written, j);
+            push_factor(witness, written, j);
             Top {
                 height: height - 1,
                 written: written + 1,
             }
         }
         Step::One(a, b) => {
-            put_pair(xs, ys, height - 1, a, b);
+            set_pair(xs, ys, height - 1, a, b);
             Top { height, written }
         }
         Step::Two(a, b, c, d) => {
-            put_pair(xs, ys, height - 1, c, d);
-            put_pair(xs, ys, height, a, b);
+            set_pair(xs, ys, height - 1, c, d);
+            set_pair(xs, ys, height, a, b);
             Top {
                 height: height + 1,
                 written,

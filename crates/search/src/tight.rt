@@ -55,6 +55,27 @@ fn child(children: &[u16], y: usize) -> Node
     Node::At(b)
 }
 
+// Both: the rest of x's word behind the letter of that byte, and the child of y.
+fn rest_and_child(
+    letters: &[u8],
+    rests: &[u16],
+    children: &[u16],
+    x: usize,
+    y: usize,
+    byte: u8,
+) -> Premise
+    requires { ⌜ (x < length (now letters)) × (x < length (now rests)) × (y < length (now children)) ⌝ }
+    ensures { λ r. ⌜ Holds (λ a b. RestBy (now (letters .entry)) (now (rests .entry)) byte x a × ChildOf (now (children .entry)) y b) r ⌝ }
+{
+    match rest_by(letters, rests, x, byte) {
+        Node::Nowhere => Premise::Nothing,
+        Node::At(a) => match child(children, y) {
+            Node::Nowhere => Premise::Nothing,
+            Node::At(b) => Premise::Pair(a, b),
+        },
+    }
+}
+
 // The pair (a, b), where its entry is that of (x, y).
 fn same(table: &[u16], count: usize, x: usize, y: usize, a: usize, b: usize) -> Premise
     requires { ⌜ Counts count (now table) ⌝ }
@@ -83,12 +104,9 @@ fn rule_b(
     requires { ⌜ (x < count) × (y < count) ⌝ }
     ensures { λ r. ⌜ Holds (TightB count (now (letters .entry)) (now (rests .entry)) (now («children_r» .entry)) (now (table .entry)) x y) r ⌝ }
 {
-    match rest_by(letters, rests, x, 82) {
-        Node::Nowhere => Premise::Nothing,
-        Node::At(a) => match child(children_r, y) {
-            Node::Nowhere => Premise::Nothing,
-            Node::At(b) => same(table, count, x, y, a, b),
-        },
+    match rest_and_child(letters, rests, children_r, x, y, 82) {
+        Premise::Nothing => Premise::Nothing,
+        Premise::Pair(a, b) => same(table, count, x, y, a, b),
     }
 }
 
@@ -110,12 +128,9 @@ fn rule_c(
 {
     match rest_by(letters, rests, x, 83) {
         Node::Nowhere => Premise::Nothing,
-        Node::At(s) => match rest_by(letters, rests, s, 83) {
-            Node::Nowhere => Premise::Nothing,
-            Node::At(a) => match child(children_s, y) {
-                Node::Nowhere => Premise::Nothing,
-                Node::At(b) => same(table, count, x, y, a, b),
-            },
+        Node::At(s) => match rest_and_child(letters, rests, children_s, s, y, 83) {
+            Premise::Nothing => Premise::Nothing,
+            Premise::Pair(a, b) => same(table, count, x, y, a, b),
         },
     }
 }
@@ -136,14 +151,11 @@ fn rule_d(
     requires { ⌜ (x < count) × (y < count) ⌝ }
     ensures { λ r. ⌜ Holds (TightD count (now (letters .entry)) (now (rests .entry)) (now («children_s» .entry)) (now (table .entry)) x y) r ⌝ }
 {
-    match rest_by(letters, rests, x, 83) {
-        Node::Nowhere => Premise::Nothing,
-        Node::At(a) => match child(children_s, y) {
+    match rest_and_child(letters, rests, children_s, x, y, 83) {
+        Premise::Nothing => Premise::Nothing,
+        Premise::Pair(a, s) => match child(children_s, s) {
             Node::Nowhere => Premise::Nothing,
-            Node::At(s) => match child(children_s, s) {
-                Node::Nowhere => Premise::Nothing,
-                Node::At(b) => same(table, count, x, y, a, b),
-            },
+            Node::At(b) => same(table, count, x, y, a, b),
         },
     }
 }
@@ -262,20 +274,17 @@ fn rule_e(
     ensures { λ r. ⌜ Names (λ v. TightE count (now (letters .entry)) (now (rests .entry)) (now («children_s» .entry)) (now (table .entry)) x y
         (at (now (rests .entry)) x) (at (now («children_s» .entry)) y) v) r ⌝ }
 {
-    match rest_by(letters, rests, x, 83) {
-        Node::Nowhere => Node::Nowhere,
-        Node::At(a) => match child(children_s, y) {
-            Node::Nowhere => Node::Nowhere,
-            Node::At(b) => find_middle(
-                letters,
-                rests,
-                table,
-                count,
-                pair_entry(table, count, x, y),
-                a,
-                b,
-            ),
-        },
+    match rest_and_child(letters, rests, children_s, x, y, 83) {
+        Premise::Nothing => Node::Nowhere,
+        Premise::Pair(a, b) => find_middle(
+            letters,
+            rests,
+            table,
+            count,
+            pair_entry(table, count, x, y),
+            a,
+            b,
+        ),
     }
 }
 

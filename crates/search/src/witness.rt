@@ -50,7 +50,7 @@ pub(crate) fn write_witness(
         &mut ys,
     );
     let height = first.height;
-    stack::put_pair(&mut xs, &mut ys, height, 0, first.node);
+    stack::set_pair(&mut xs, &mut ys, height, 0, first.node);
     stack::write_pairs(
         letters,
         rests,

@@ -6,6 +6,10 @@ use native.Mathlib.Omega.{arith}
 use Rattle.search.proofs.answer.Statement.{statement}
 use Rattle.search.proofs.answer.Tie as tie
 
+-- the first state, from the one in which the last row's entry is read
+abbrev begun : tie.After-cell → tie.Start
+begun c = c .before .before .before .before .before .before .before .before .before .before .before
+
 cast-if1 : tie.Need-cast-if1
 cast-if1 c = search needs
 
@@ -17,23 +21,26 @@ cell-requires c κs = search needs
 
 returns : tie.Need-returns
 returns c =
-    let tabulated = c .before .before .before .before .before .before .before .before .before .before .before .before .pre .0 in
-    ((λ gens words query. (decided-none query (tabulated .rows-right) (omega (arith, c .before .cell .ensures .0)), refl)), tt)
+    let read = c .before in
+    let tabulated = begun read .pre .0 in
+    ((λ gens words query. (decided-none query (tabulated .rows-right) (omega (arith, read .cell .ensures .0)), refl)), tt)
 
 write-witness-requires : tie.Need-write-witness-requires
 write-witness-requires c κs =
-    let p = c .before .before .before .before .before .before .before .before .before .before .before .before .before .pre in
-    (p .0, (p .1, omega (arith, c .before .before .cell .ensures .0)))
+    let read = c .before .before in
+    let p = begun read .pre in
+    (p .0, (p .1, omega (arith, read .cell .ensures .0)))
 
 same-length : tie.Need-same-length
 same-length c = search needs
 
 returns-2 : tie.Need-returns-2
 returns-2 c =
-    let tabulated = c .before .before .before .before .before .before .before .before .before .before .before .before .before .before .before .before .pre .0 in (
+    let read = c .before .before .before .before .before in
+    let tabulated = begun read .pre .0 in (
       (λ gens words query.
           let s = c .before .before .write-witness .ensures gens words query in
-          (decided-member query (tabulated .rows-right) (omega (arith, c .before .before .before .before .before .cell .ensures .0)) s, s .rest)),
+          (decided-member query (tabulated .rows-right) (omega (arith, read .cell .ensures .0)) s, s .rest)),
       tt,
     )
 

@@ -5,13 +5,21 @@ use Rattle.tables.specs.Filling.{Filled}
 use Rattle.search.specs.Search.{Fits}
 use Rattle.search.proofs.Tabulating.{tabulated, right, searches}
 use borrow.Author.Needs.{needs}
-use native.Mathlib.Omega.{arith}
 use Rattle.search.proofs.least.Statement.{statement}
 use Rattle.search.proofs.least.Tie as tie
 
--- the state at entry, from where the rows were filled
+-- Earlier states, each from a later one: there is room, the table is filled, the rows are filled.
+abbrev begun : tie.After-has-room → tie.Start
+begun c = c .before .before .before .before .before .before .before .before .before .before
+
+abbrev asked : tie.After-fill → tie.After-has-room
+asked c = c .before .before .before
+
+abbrev tabled : tie.After-fill2 → tie.After-fill
+tabled c = c .before .before .before .before .before .before
+
 abbrev start : tie.After-fill2 → tie.Start
-start c = c .before .before .before .before .before .before .before .before .before .before .before .before .before .before .before .before .before .before .before
+start c = begun (asked (tabled c))
 
 -- the table was filled, so the inputs fit
 fits-at : (c : tie.After-fill2)
@@ -19,13 +27,17 @@ fits-at : (c : tie.After-fill2)
     Fits (a .count) (a .letters .now) (a .rests .now) (a .children-r .now) (a .children-s .now) (a .wholes .now) (a .target .now) (a .n .0)
     (record { first = a .first .now; second = a .second .now; witness = a .witness .now })
 fits-at c =
-    let room = c .before .before .before .before .before .before .before .before .before .has-room in
-    record { room = told (room .result) (c .before .before .before .before .before .before .before .before .if1 .taken) (room .ensures); table = (rw (c .before .before .before .if2 .taken) at (c .before .before .before .before .before .before .fill .ensures)) .0 }
+    let filled = tabled c in
+    let room = asked filled .has-room in
+    record {
+      room = told (room .result) (filled .before .before .if1 .taken) (room .ensures);
+      table = (rw (c .before .before .before .if2 .taken) at (c .before .before .before .before .before .before .fill .ensures)) .0;
+    }
 
 table-at : (c : tie.After-fill2)
     → let a = start c .args in
     Filled (a .count) (a .letters .now) (a .rests .now) (a .children-r .now) (a .children-s .now) (a .wholes .now) (a .n .0) (a .first .now)
-    (c .before .before .before .before .before .before .fill .last .1 .1 .1 .1 .1 .1 .1 .0)
+    (tabled c .fill .last .1 .1 .1 .1 .1 .1 .1 .0)
 table-at c = (rw (c .before .before .before .if2 .taken) at (c .before .before .before .before .before .before .fill .ensures)) .1
 
 has-room-requires : tie.Need-has-room-requires

@@ -1,23 +1,48 @@
 -- Where the sizes pass the verdict is settled, and then both tables are zeroed. Assumes nothing.
-use mathlib.Core.Path.{_≡_, refl, sym, ap, _∙_}
-use Prim.Native.Nat.{ℕ, _*_, _≤_}
+use mathlib.Core.Path.{refl, sym, _∙_}
+use Prim.Native.Nat.{ℕ}
 use lib.ListN.{length, length-map}
 use Rattle.words.specs.Bytes.{letter, word}
+use Rattle.refusals.specs.declared.Asked.{Asked}
 use Rattle.products.specs.Product.{generators}
 use Rattle.sizes.specs.Questions.{side, ofSizes}
 use Rattle.sizes.proofs.Passing.{SizesPassed, sizes-passed}
+use Rattle.engine.specs.Calls.{Lent}
 use Rattle.engine.proofs.Verdicts.{judged-refused, judged-settled}
 use native.Mathlib.Omega.{arith}
 use borrow.Author.Needs.{needs}
 use Rattle.engine.proofs.judging.judge_form.Statement.{statement}
 use Rattle.engine.proofs.judging.judge_form.Tie as tie
 
-abbrev start : tie.After-enum-told → tie.Start
-start c = c .before .before .before .before .before .before .before .before .before
+-- Earlier states, each from a later one: the sizes are asked for, they have passed, the verdict is settled, the first table is zeroed.
+abbrev begun : tie.After-of-sizes → tie.Start
+begun c = c .before .before .before .before .before .before .before
 
--- where the sizes have passed, from where the verdict is settled
+abbrev start : tie.After-enum-told → tie.Start
+start c = begun (c .before .before)
+
 abbrev decided : tie.After-decide → tie.After-enum-told
 decided c = c .before .before .before .before
+
+abbrev settled : tie.After-zero-table → tie.After-decide
+settled c = c .before .before .before .before .before .before .before .before
+
+abbrev zeroed : tie.After-zero-table2 → tie.After-zero-table
+zeroed c = c .before .before .before .before
+
+-- what is lent
+abbrev lent : tie.Start → Lent
+lent s = record { first = s .args .first .now; second = s .args .second .now; witness = s .args .witness .now }
+
+-- what questions 12 to 15 say, and the side of the tables
+abbrev answered : tie.Start → Asked
+answered s =
+    let a = s .args in
+    ofSizes (length (a .letters .now)) (length (word (a .form .now))) (a .n .0)
+    (length (a .first .now)) (length (a .second .now)) (length (a .witness .now))
+
+abbrev q : tie.Start → ℕ
+q s = side (length (s .args .letters .now)) (length (word (s .args .form .now)))
 
 -- the sizes have passed
 asked : (c : tie.After-enum-told)
@@ -42,8 +67,9 @@ enum-told c = search needs
 
 decide-requires : tie.Need-decide-requires
 decide-requires c κs =
-    let p = c .before .before .before .before .before .before .before .before .before .before .before .before .pre in
-    (p .0, (p .1 .0, sym (c .before .before .before .before .before .of-sizes .ensures) ∙ c .before .before .before .enum-told .given .1))
+    let told = c .before .before .before in
+    let p = start told .pre in
+    (p .0, (p .1 .0, sym (told .before .before .of-sizes .ensures) ∙ told .enum-told .given .1))
 
 zero-table-requires : tie.Need-zero-table-requires
 zero-table-requires c κs = search needs
@@ -53,18 +79,11 @@ zero-table-requires-2 c κs = search needs
 
 returns : tie.Need-returns
 returns c =
-    let a = c .before .before .before .before .before .before .before .before .before .before .args in
-    let letters = a .letters .now in
-    let ends = a .ends .now in
-    let form = a .form .now in
-    let first = a .first .now in
-    let second = a .second .now in
-    let witness = a .witness .now in
-    let m = length letters in
-    let t = length (word form) in
-    judged-refused (ofSizes m t (a .n .0) (length first) (length second) (length witness)) (side m t) (generators letters ends) (word form) (a .n .0)
-    (record { first = first; second = second; witness = witness })
-    (rw (length-map form letter) (sym (c .before .before .before .of-sizes .ensures) ∙ c .before .refusal .given .1))
+    let sizes = c .before .before .before in
+    let s = begun sizes in
+    let a = s .args in
+    judged-refused (answered s) (q s) (generators (a .letters .now) (a .ends .now)) (word (a .form .now)) (a .n .0) (lent s)
+    (rw (length-map (a .form .now) letter) (sym (sizes .of-sizes .ensures) ∙ c .before .refusal .given .1))
 
 same-length : tie.Need-same-length
 same-length c = search needs
@@ -77,29 +96,24 @@ same-length-3 c = search needs
 
 returns-2 : tie.Need-returns-2
 returns-2 c =
-    let told = decided (c .before .before .before .before .before .before .before .before .before .before .before .before .before .before) in
-    let d = c .before .before .before .before .before .before .before .before .before .before .before .before .before .before .decide in
-    let a = start told .args in
-    let letters = a .letters .now in
-    let ends = a .ends .now in
-    let form = a .form .now in
-    let first = a .first .now in
-    let second = a .second .now in
-    let witness = a .witness .now in
-    let m = length letters in
-    let t = length (word form) in
-    let same = length-map form letter in
-    judged-settled (ofSizes m t (a .n .0) (length first) (length second) (length witness)) (side m t) (generators letters ends) (word form) (a .n .0)
-    (d .result)
-    (record { first = first; second = second; witness = witness })
+    let second-zeroed = c .before .before in
+    let first-zeroed = zeroed second-zeroed in
+    let told = decided (settled first-zeroed) in
+    let d = settled first-zeroed .decide in
+    let zero-first = first-zeroed .zero-table in
+    let zero-second = second-zeroed .zero-table2 in
+    let s = start told in
+    let a = s .args in
+    let same = length-map (a .form .now) letter in
+    judged-settled (answered s) (q s) (generators (a .letters .now) (a .ends .now)) (word (a .form .now)) (a .n .0) (d .result) (lent s)
     (record { first = d .last .1 .1 .1 .1 .0; second = d .last .1 .1 .1 .1 .1 .0; witness = d .last .1 .1 .1 .1 .1 .1 .0 })
-    (record { first = c .before .before .before .before .before .before .zero-table .last .0; second = c .before .before .zero-table2 .last .0; witness = d .last .1 .1 .1 .1 .1 .1 .0 })
+    (record { first = zero-first .last .0; second = zero-second .last .0; witness = d .last .1 .1 .1 .1 .1 .1 .0 })
     (rw same (sym (told .before .before .of-sizes .ensures) ∙ told .enum-told .given .1))
     (rw same (d .ensures))
     (rw same (omega (arith, asked told .first-room, d .kept .1 .1 .1 .1 .0)))
-    (rw same (c .before .before .before .before .before .before .zero-table .ensures))
+    (rw same (zero-first .ensures))
     (rw same (omega (arith, asked told .second-room, d .kept .1 .1 .1 .1 .1 .0)))
-    (rw same (c .before .before .zero-table2 .ensures))
+    (rw same (zero-second .ensures))
     refl
 
 pub judge-form-spec : {M : Type 1} → statement M

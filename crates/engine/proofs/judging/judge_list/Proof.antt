@@ -4,6 +4,7 @@ use mathlib.Core.List.{List}
 use Prim.Native.Nat.{ℕ, _≤_}
 use lib.ListN.{length, take}
 use lib.Seq.{length-take-le}
+use Rattle.limits.specs.Limits.{mostGenerators}
 use Rattle.words.specs.Word.{Word, nf}
 use Rattle.words.specs.Bytes.{word}
 use Rattle.refusals.specs.declared.Asked.the-variants.{Passed}
@@ -22,6 +23,19 @@ use borrow.Author.Needs.{needs}
 use Rattle.engine.proofs.judging.judge_list.Statement.{statement}
 use Rattle.engine.proofs.judging.judge_list.Tie as tie
 
+-- Earlier states, each from a later one: the list is reduced, its length is known, the target is judged.
+abbrev begun : tie.After-reduce-list → tie.Start
+begun c = c .before .before .before .before .before .before .before .before .before
+
+abbrev written : tie.After-m → tie.After-reduce-list
+written c = c .before .before .before .before
+
+abbrev start : tie.After-m → tie.Start
+start c = begun (written c)
+
+abbrev judged : tie.After-judge-target → tie.After-m
+judged c = c .before .before .before .before .before .before .before .before
+
 abbrev gens : tie.Start → List Word
 gens c = generators (c .args .bytes .now) (c .args .ends .now)
 
@@ -29,14 +43,8 @@ gens c = generators (c .args .bytes .now) (c .args .ends .now)
 checked : (c : tie.Start) → Checked (c .args .bytes .now) (c .args .ends .now)
 checked c = list-alone (c .args .bytes .now) (c .args .ends .now) (c .args .target .now) (c .pre)
 
-few : (c : tie.Start) → length (c .args .ends .now) ≤ 64
+few : (c : tie.Start) → length (c .args .ends .now) ≤ mostGenerators
 few c = list-passed (c .args .bytes .now) (c .args .ends .now) (c .args .target .now) (c .pre) .few
-
-abbrev start : tie.After-m → tie.Start
-start c = c .before .before .before .before .before .before .before .before .before .before .before .before .before
-
-abbrev written : tie.After-m → tie.After-reduce-list
-written c = c .before .before .before .before
 
 -- no generator is too long
 none-long : (c : tie.After-m) → question11 (gens (start c)) ≡ Passed
@@ -79,13 +87,17 @@ array-share-prefix-letters : tie.Need-array-share-prefix-letters
 array-share-prefix-letters c = room-letters (c .before .before)
 
 slice-aggregate-judge-target : tie.Need-slice-aggregate-judge-target
-slice-aggregate-judge-target c = sym (length-take-le (c .before .before .before .m .given .0 .0 .0) (c .before .before .before .before .before .before .before .reduce-list .last .1 .1 .0) (room-letters (c .before .before .before)))
+slice-aggregate-judge-target c =
+    let told = c .before .before .before in
+    sym (length-take-le (told .m .given .0 .0 .0) (written told .reduce-list .last .1 .1 .0) (room-letters told))
 
 array-share-prefix-list-ends : tie.Need-array-share-prefix-list-ends
 array-share-prefix-list-ends c = room-ends (c .before .before .before)
 
 slice-aggregate-judge-target-2 : tie.Need-slice-aggregate-judge-target-2
-slice-aggregate-judge-target-2 c = sym (length-take-le (length (c .before .before .before .before .before .before .before .before .before .before .before .before .before .before .before .before .before .args .ends .now)) (c .before .before .before .before .before .before .before .before .reduce-list .last .1 .1 .1 .0) (room-ends (c .before .before .before .before)))
+slice-aggregate-judge-target-2 c =
+    let told = c .before .before .before .before in
+    sym (length-take-le (length (start told .args .ends .now)) (written told .reduce-list .last .1 .1 .1 .0) (room-ends told))
 
 judge-target-requires : tie.Need-judge-target-requires
 judge-target-requires c κs =
@@ -98,11 +110,12 @@ judge-target-requires c κs =
 
 returns : tie.Need-returns
 returns c =
-    let begun = c .before .before .before .before .before .before .before .before .before .before .before .before .before .before in
-    let a = begun .args in
-    judges-too-long (a .bytes .now) (a .ends .now) (a .target .now) (a .n .0) (begun .pre)
+    let reduced = c .before .before .before .before .before in
+    let s = begun reduced in
+    let a = s .args in
+    judges-too-long (a .bytes .now) (a .ends .now) (a .target .now) (a .n .0) (s .pre)
     (record { first = a .first .now; second = a .second .now; witness = a .witness .now })
-    (list-too-long (a .bytes .now) (a .ends .now) _ _ _ _ _ (c .before .before .before .before .before .reduce-list .ensures) (checked begun) refl refl (c .before .refusal .given .1))
+    (list-too-long (a .bytes .now) (a .ends .now) _ _ _ _ _ (reduced .reduce-list .ensures) (checked s) refl refl (c .before .refusal .given .1))
 
 same-length : tie.Need-same-length
 same-length c = search needs
@@ -115,7 +128,7 @@ same-length-3 c = search needs
 
 returns-2 : tie.Need-returns-2
 returns-2 c =
-    let told = c .before .before .before .before .before .before .before .before .before .before .before .before .before .before in
+    let told = judged (c .before .before .before .before .before .before) in
     let a = start told .args in
     let t = c .before .before .before .before .before .before .judge-target in
     let before : Lent = record { first = a .first .now; second = a .second .now; witness = a .witness .now } in

@@ -15,11 +15,18 @@ use borrow.Author.Needs.{needs}
 use Rattle.engine.proofs.judging.judge_target.Statement.{statement}
 use Rattle.engine.proofs.judging.judge_target.Tie as tie
 
-abbrev start : tie.After-t → tie.Start
-start c = c .before .before .before .before .before .before .before .before .before .before .before
+-- Earlier states, each from a later one: the target is reduced, its length is known, it is judged.
+abbrev begun : tie.After-reduce → tie.Start
+begun c = c .before .before .before .before .before .before .before .before
 
 abbrev reduced : tie.After-t → tie.After-reduce
 reduced c = c .before .before .before
+
+abbrev start : tie.After-t → tie.Start
+start c = begun (reduced c)
+
+abbrev judged : tie.After-judge-form → tie.After-t
+judged c = c .before .before .before .before .before .before .before
 
 -- the length that the reduction returned, and the word that it wrote
 short : (c : tie.After-t) → c .t .given .0 .0 .0 ≤ length (reduced c .reduce .last .1 .0)
@@ -52,7 +59,9 @@ array-share-prefix-form : tie.Need-array-share-prefix-form
 array-share-prefix-form c = short (c .before .before)
 
 slice-aggregate-judge-form : tie.Need-slice-aggregate-judge-form
-slice-aggregate-judge-form c = sym (length-take-le (c .before .before .before .t .given .0 .0 .0) (c .before .before .before .before .before .before .reduce .last .1 .0) (short (c .before .before .before)))
+slice-aggregate-judge-form c =
+    let told = c .before .before .before in
+    sym (length-take-le (told .t .given .0 .0 .0) (reduced told .reduce .last .1 .0) (short told))
 
 judge-form-requires : tie.Need-judge-form-requires
 judge-form-requires c κs =
@@ -63,8 +72,9 @@ judge-form-requires c κs =
 
 returns : tie.Need-returns
 returns c =
-    let begun = c .before .before .before .before .before .before .before .before .before .before .before .before in
-    absurd (passed-not-refused (sym (reduce-refused (begun .args .target .now) _ _ _ (c .before .before .before .before .reduce .ensures) refl (c .before .refusal .given .1)) ∙ begun .pre .1))
+    let r = c .before .before .before .before in
+    let refused = reduce-refused (begun r .args .target .now) _ _ _ (r .reduce .ensures) refl (c .before .refusal .given .1) in
+    absurd (passed-not-refused (sym refused ∙ begun r .pre .1))
 
 same-length : tie.Need-same-length
 same-length c = search needs
@@ -77,14 +87,15 @@ same-length-3 c = search needs
 
 returns-2 : tie.Need-returns-2
 returns-2 c =
-    let a = c .before .before .before .before .before .before .before .before .before .before .before .before .before .before .before .before .before .before .before .before .before .before .before .before .args in
+    let told = judged (c .before .before .before .before .before .before) in
+    let a = start told .args in
     let f = c .before .before .before .before .before .before .judge-form in
     subst
     (λ (form : Word).
     JudgesForm (a .letters .now) (a .ends .now) form (a .n .0) (f .result)
     (record { first = a .first .now; second = a .second .now; witness = a .witness .now })
     (record { first = f .last .1 .1 .1 .1 .0; second = f .last .1 .1 .1 .1 .1 .0; witness = f .last .1 .1 .1 .1 .1 .1 .0 }))
-    (the-form (c .before .before .before .before .before .before .before .before .before .before .before .before .before)) (f .ensures)
+    (the-form told) (f .ensures)
 
 pub judge-target-spec : {M : Type 1} → statement M
 judge-target-spec =

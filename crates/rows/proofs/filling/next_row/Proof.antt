@@ -13,6 +13,13 @@ use borrow.Author.Needs.{needs}
 use Rattle.rows.proofs.filling.next_row.Statement.{statement}
 use Rattle.rows.proofs.filling.next_row.Tie as tie
 
+-- Earlier states, each from a later one: row i is read, the round is done.
+abbrev begun : tie.After-read-row → tie.Start
+begun c = c .before .before .before .before .before .before .before .before
+
+abbrev read : tie.After-round → tie.After-read-row
+read c = c .before .before .before .before .before
+
 mul-start : tie.Need-mul-start
 mul-start c = search needs
 
@@ -36,9 +43,10 @@ part-read-row-end c = search needs
 
 read-row-requires : tie.Need-read-row-requires
 read-row-requires c κs =
-    let a = c .before .before .before .before .before .before .before .args in
-    let p = c .before .before .before .before .before .before .before .pre .0 in
-    let buffer = c .before .before .before .before .before .before .before .pre .1 in
+    let start = c .before .before .before .before .before .before .before in
+    let a = start .args in
+    let p = start .pre .0 in
+    let buffer = start .pre .1 in
     let room = p .room in
     let long = part-length (a .rows .now) (a .i * a .count) (a .count) (omega arith) in
     (p .bound, (omega (arith, p .children-room), (omega arith, λ v h. let child = p .inside v (omega arith) in omega arith)))
@@ -57,12 +65,13 @@ part-round-end c = search needs
 
 round-requires : tie.Need-round-requires
 round-requires c κs =
-    let a = c .before .before .before .before .before .before .before .before .before .before .before .before .args in
-    let p = c .before .before .before .before .before .before .before .before .before .before .before .before .pre .0 in
-    let buffer = c .before .before .before .before .before .before .before .before .before .before .before .before .pre .1 in
+    let start = begun (c .before .before .before .before) in
+    let a = start .args in
+    let p = start .pre .0 in
+    let buffer = start .pre .1 in
     let room = p .room in
     let r = c .before .before .before .before .read-row in
-    let read = part-length (a .rows .now) (a .i * a .count) (a .count) (omega arith) in
+    let given = part-length (a .rows .now) (a .i * a .count) (a .count) (omega arith) in
     let long = part-length (a .rows .now) (a .i * a .count + a .count) (a .count) (omega arith) in
     let fits : RoundFits (a .n .0) (r .last .1 .1 .1 .0) (a .table .now) (a .count) =
     record {
@@ -84,18 +93,20 @@ same-length-2 c = search needs
 
 returns : tie.Need-returns
 returns c =
-    let a = c .before .before .before .before .before .before .before .before .before .before .before .before .before .before .before .args in
-    let p = c .before .before .before .before .before .before .before .before .before .before .before .before .before .before .before .pre .0 in
+    let at-round = c .before .before in
+    let start = begun (read at-round) in
+    let a = start .args in
+    let p = start .pre .0 in
     let room = p .room in
-    let r = c .before .before .before .before .before .before .before .read-row in
-    let s = c .before .before .round in
+    let r = read at-round .read-row in
+    let s = at-round .round in
     let first = r .last .1 .1 .1 .0 in
-    let read = part-length (a .rows .now) (a .i * a .count) (a .count) (omega arith) in
+    let given = part-length (a .rows .now) (a .i * a .count) (a .count) (omega arith) in
     let long = part-length (a .rows .now) (a .i * a .count + a .count) (a .count) (omega arith) in (
       next-row (a .count) (a .n .0) (a .i) (a .children .now) (a .table .now) (a .rows .now) (p .inside) room first
           (λ v h. r .ensures .new v (omega arith)) (s .last .1 .1 .1 .0) (s .kept .1 .1 .1 .0 ∙ long)
           (λ q h. s .ensures q (omega arith) ∙ ap (λ (w : ℕ). leastSum w (a .table .now) (at first) q w) long),
-      rewritten-as (rewritten-to (r .ensures) read)
+      rewritten-as (rewritten-to (r .ensures) given)
           (λ v h.
           let child = at (a .children .now) v in
           ap (pick (eqb child 0) (a .n .0 + 1)) (part-at (a .rows .now) (a .i * a .count) (a .count) child (p .inside v h))),

@@ -4,6 +4,10 @@ use borrow.Author.Needs.{needs}
 use Rattle.rows.proofs.filling.read_letter.Statement.{statement}
 use Rattle.rows.proofs.filling.read_letter.Tie as tie
 
+-- the first state, from the one in which the letter is no R
+abbrev begun : tie.Else1 → tie.Start
+begun c = c .before .before .before .before .before .before
+
 next-row-requires : tie.Need-next-row-requires
 next-row-requires c κs = search needs
 
@@ -27,8 +31,8 @@ same-length-4 c = search needs
 
 returns-2 : tie.Need-returns-2
 returns-2 c =
-    let letter = c .before .before .before .before .before .before .before .before .before .before .before .before .before .args .letter in
-    rw (ne-eqb letter 82 (c .before .before .before .before .before .before .before .if1 .left)) (c .before .before .before .before .next-row2 .ensures)
+    let other = c .before .before .before .before .before .before .before in
+    rw (ne-eqb (begun other .args .letter) 82 (other .if1 .left)) (c .before .before .before .before .next-row2 .ensures)
 
 pub read-letter-spec : {M : Type 1} → statement M
 read-letter-spec =

@@ -17,6 +17,13 @@ Inv-loop first n table row₀ v₀ row v =
 abbrev μ-loop : tie.MeasureT-loop
 μ-loop first n table row₀ v₀ row v = length row₀ - v
 
+-- the first state, from the one in which the row is copied, and that one from the loop
+abbrev begun : tie.After-copy-row Inv-loop μ-loop → tie.Start Inv-loop μ-loop
+begun c = c .before .before .before .before .before
+
+abbrev copied : tie.At-loop Inv-loop μ-loop → tie.After-copy-row Inv-loop μ-loop
+copied c = c .before .before .before
+
 copy-row-requires : tie.Need-copy-row-requires Inv-loop μ-loop
 copy-row-requires c κs = search needs
 
@@ -26,13 +33,14 @@ loop-holds c = (omega arith, refl, λ q h. let long = c .before .before .copy-ro
 lower-from-requires : tie.Need-lower-from-requires Inv-loop μ-loop
 lower-from-requires c κs =
     let l = c .before .before .loop in
-    let a = c .before .before .before .before .before .before .before .before .before .before .args in
-    let p = c .before .before .before .before .before .before .before .before .before .before .pre in
-    let r = c .before .before .before .before .before .copy-row in
+    let first = copied (c .before .before) in
+    let a = begun first .args in
+    let p = begun first .pre in
+    let r = first .copy-row in
     let long = l .inv .1 ∙ r .ensures .long in (
       subst (λ (w : ℕ). RoundFits (a .n .0) (a .first .now) (a .table .now) w) (sym long) p,
       (
-        c .before .loop-test .taken,
+        omega arith,
         λ q h.
             let low = p .low q (omega arith) in
             omega (arith, l .inv .2 q (omega arith), sum-low (length (r .last .1 .1 .0)) (a .table .now) (at (a .first .now)) q (l .v)),
@@ -47,9 +55,10 @@ loop-less c = search needs
 
 loop-again : tie.Need-loop-again Inv-loop μ-loop
 loop-again c =
-    let l = c .before .before .before .before .before .loop in
-    let a = c .before .before .before .before .before .before .before .before .before .before .before .before .before .args in
-    let w = length (c .before .before .before .before .before .before .before .before .copy-row .last .1 .1 .0) in
+    let at-loop = c .before .before .before .before .before in
+    let l = at-loop .loop in
+    let a = begun (copied at-loop) .args in
+    let w = length (copied at-loop .copy-row .last .1 .1 .0) in
     let r = c .before .before .lower-from in (
       omega arith,
       r .ensures .long ∙ l .inv .1,
@@ -62,9 +71,10 @@ same-length c = search needs
 returns : tie.Need-returns Inv-loop μ-loop
 returns c =
     let l = c .before .loop in
-    let a = c .before .before .before .before .before .before .before .before .before .args in
+    let first = copied (c .before) in
+    let a = begun first .args in
     let w = length (a .row .now) in
-    let long : length (c .before .before .before .before .copy-row .last .1 .1 .0) ≡ w = c .before .before .before .before .copy-row .ensures .long in
+    let long : length (first .copy-row .last .1 .1 .0) ≡ w = first .copy-row .ensures .long in
     let all : l .v ≡ w = omega arith in
     λ q h.
     l .inv .2 q (omega arith) ∙ ap (λ (k : ℕ). leastSum k (a .table .now) (at (a .first .now)) q (l .v)) long

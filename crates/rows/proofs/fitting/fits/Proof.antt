@@ -1,7 +1,5 @@
 -- Room first, then the children, and then the table. Assumes nothing.
-use Prim.Native.Nat.{_*_, _≤_}
 use native.Mathlib.Nat.{mul-le-mul}
-use Rattle.limits.specs.Limits.{mostStates}
 use Rattle.refusals.proofs.Telling.{told, told-not, tells-same}
 use borrow.Author.Needs.{needs}
 use native.Mathlib.Omega.{arith}

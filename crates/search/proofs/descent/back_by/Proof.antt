@@ -28,8 +28,8 @@ find-chain-requires c κs =
     let t = chained (c .before .before .entry .ensures .0) (told-not _ (c .if1 .left) (c .before .is-read .ensures)) (b .0) (b .1) (b .2) in
     (p .0, (p .1 .0, ((p .1 .1 .0 .0, p .1 .1 .0 .1), t)))
 
-put-pair-requires : tie.Need-put-pair-requires
-put-pair-requires c κs =
+set-pair-requires : tie.Need-set-pair-requires
+set-pair-requires c κs =
     let p = c .before .before .before .before .before .before .before .before .before .before .before .pre in
     let t = c .before .before .find-chain .ensures in
     let room = p .1 .1 .1 .1 .1 _ _ (chain t) in
@@ -62,7 +62,7 @@ returns-2 c =
     let t = found .find-chain .ensures in
     let room = p .1 .1 .1 .1 .1 _ _ (chain t) in
     let sizes = p .1 .1 .1 .0 in
-    let put = c .before .before .before .before .before .put-pair .ensures in (
+    let put = c .before .before .before .before .before .set-pair .ensures in (
       (v, a .at .node) ∷ [],
       back-chain (c .entry2 .ensures .0) t,
       rw (put .0, put .1)
@@ -77,7 +77,7 @@ back-by-spec =
     is-read-requires
     returns
     find-chain-requires
-    put-pair-requires
+    set-pair-requires
     entry-requires-2
     add-t20
     same-length

@@ -21,6 +21,13 @@ abbrev μ-loop : tie.MeasureT-loop
 μ-loop letters rests children-r children-s wholes table count xs₀ ys₀ height witness₀ top₀ xs ys witness top =
     stepsLeft count table (stacked xs ys (top .height))
 
+-- the first state, from the loop, and the loop from a step of the walk
+abbrev begun : tie.At-loop Inv-loop μ-loop → tie.Start Inv-loop μ-loop
+begun c = c .before .before .before .before .before .before .before .before .before .before
+
+abbrev entered : tie.After-walk-once Inv-loop μ-loop → tie.At-loop Inv-loop μ-loop
+entered c = c .before .before .before .before .before .before
+
 loop-holds : tie.Need-loop-holds Inv-loop μ-loop
 loop-holds c =
     let start = c .before .before .before .before .before .before .before .before .before in
@@ -29,8 +36,9 @@ loop-holds c =
 
 walk-once-requires : tie.Need-walk-once-requires Inv-loop μ-loop
 walk-once-requires c κs =
-    let p = c .before .before .before .before .before .before .before .before .before .before .before .before .before .before .before .pre in
-    let v = c .before .before .before .before .before .loop .inv in
+    let at-loop = c .before .before .before .before .before in
+    let p = begun at-loop .pre in
+    let v = at-loop .loop .inv in
     ((p .0, p .1, standing-on (p .2) (v .0) (v .1) (v .2) (v .3) (v .4)), c .before .before .before .if1 .taken)
 
 loop-less : tie.Need-loop-less Inv-loop μ-loop
@@ -38,8 +46,9 @@ loop-less c = c .before .before .before .before .before .before .walk-once .ensu
 
 loop-again : tie.Need-loop-again Inv-loop μ-loop
 loop-again c =
-    let v = c .before .before .before .before .before .before .before .before .before .before .before .before .loop .inv in
-    let w = c .before .before .before .before .before .before .walk-once in (
+    let walked = c .before .before .before .before .before .before in
+    let v = entered walked .loop .inv in
+    let w = walked .walk-once in (
       w .kept .1 .1 .1 .1 .1 .1 .1 .0 ∙ v .0,
       w .kept .1 .1 .1 .1 .1 .1 .1 .1 .0 ∙ v .1,
       w .kept .1 .1 .1 .1 .1 .1 .1 .1 .1 .0 ∙ v .2,
@@ -50,7 +59,7 @@ loop-again c =
 -- no more factors are written than the bound allows
 cast-t20 : tie.Need-cast-t20 Inv-loop μ-loop
 cast-t20 c =
-    let p = c .before .before .before .before .before .before .before .before .before .before .before .before .before .pre in
+    let p = begun (c .before .before .before) .pre in
     let l = c .before .before .before .loop in
     let v = l .inv in
     let s = standing-on {xs₁ = l .xs} {ys₁ = l .ys} {height₁ = l .top .height} (p .2) (v .0) (v .1) (v .2) (v .3) (v .4) in

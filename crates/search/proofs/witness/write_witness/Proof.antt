@@ -11,6 +11,13 @@ use native.Mathlib.Omega.{arith}
 use Rattle.search.proofs.witness.write_witness.Statement.{statement}
 use Rattle.search.proofs.witness.write_witness.Tie as tie
 
+-- Earlier states, each from a later one: the stack is made, the rows are walked, the last pair is set.
+abbrev begun : tie.After-ys → tie.Start
+begun c = c .before .before .before .before .before .before .before .before .before .before .before
+
+abbrev descended : tie.After-set-pair → tie.After-descend
+descended c = c .before .before .before .before .before
+
 -- the stack has room for one pair more once the rows are walked, and is what it was with that pair on top
 room-left : (c : tie.After-descend)
     → (c .descend .result .height < length (c .descend .last .1 .1 .1 .1 .1 .1 .0)) × (c .descend .result .height < length (c .descend .last .1 .1 .1 .1 .1 .1 .1 .0))
@@ -19,7 +26,7 @@ room-left c =
     let xs = e .last .1 .1 .1 .1 .1 .1 .0 in
     let ys = e .last .1 .1 .1 .1 .1 .1 .1 .0 in
     let h = e .result .height in
-    let pre = c .before .before .before .before .before .before .before .before .before .before .before .before .pre in
+    let pre = begun (c .before) .pre in
     let room = last-room (pre .0) (pre .1 .1) (e .result .node) (stacked xs ys h) (e .ensures) in
     let high = length-stacked xs ys h in
     (omega (arith, room, high, e .kept .1 .1 .1 .1 .1 .1 .0), omega (arith, room, high, e .kept .1 .1 .1 .1 .1 .1 .1 .0))
@@ -39,45 +46,45 @@ slice-aggregate-descend-2 c = search needs
 
 descend-requires : tie.Need-descend-requires
 descend-requires c κs =
-    let pre = c .before .before .before .before .before .before .before .before .before .before .before .pre in
+    let pre = begun c .pre in
     (descendable (pre .0) (pre .1 .1), (omega arith, omega arith))
 
-slice-aggregate-put-pair : tie.Need-slice-aggregate-put-pair
-slice-aggregate-put-pair c = sym (c .before .before .before .descend .kept .1 .1 .1 .1 .1 .1 .0)
+slice-aggregate-set-pair : tie.Need-slice-aggregate-set-pair
+slice-aggregate-set-pair c = sym (c .before .before .before .descend .kept .1 .1 .1 .1 .1 .1 .0)
 
-slice-aggregate-put-pair-2 : tie.Need-slice-aggregate-put-pair-2
-slice-aggregate-put-pair-2 c = sym (c .before .before .before .before .descend .kept .1 .1 .1 .1 .1 .1 .1 .0)
+slice-aggregate-set-pair-2 : tie.Need-slice-aggregate-set-pair-2
+slice-aggregate-set-pair-2 c = sym (c .before .before .before .before .descend .kept .1 .1 .1 .1 .1 .1 .1 .0)
 
-put-pair-requires : tie.Need-put-pair-requires
-put-pair-requires c κs =
+set-pair-requires : tie.Need-set-pair-requires
+set-pair-requires c κs =
     let walked = c .before .before .before .before in
     let e = walked .descend in
     let room = room-left walked in
-    let d = walked .before .before .before .before .before .before .before .before .before .before .before .before .pre .0 in
+    let d = begun (walked .before) .pre .0 in
     (room .0, room .1, omega arith, omega (arith, e .ensures .node, d .few))
 
 slice-aggregate-write-pairs : tie.Need-slice-aggregate-write-pairs
 slice-aggregate-write-pairs c =
-    let walked = c .before .before .before .before .before .before .before .before in
-    sym (c .before .before .before .put-pair .kept .0 ∙ walked .descend .kept .1 .1 .1 .1 .1 .1 .0)
+    let at-pair = c .before .before .before in
+    sym (at-pair .set-pair .kept .0 ∙ descended at-pair .descend .kept .1 .1 .1 .1 .1 .1 .0)
 
 slice-aggregate-write-pairs-2 : tie.Need-slice-aggregate-write-pairs-2
 slice-aggregate-write-pairs-2 c =
-    let walked = c .before .before .before .before .before .before .before .before .before in
-    sym (c .before .before .before .before .put-pair .kept .1 .0 ∙ walked .descend .kept .1 .1 .1 .1 .1 .1 .1 .0)
+    let at-pair = c .before .before .before .before in
+    sym (at-pair .set-pair .kept .1 .0 ∙ descended at-pair .descend .kept .1 .1 .1 .1 .1 .1 .1 .0)
 
 add-write-pairs : tie.Need-add-write-pairs
 add-write-pairs c =
-    let walked = c .before .before .before .before .before .before .before .before .before in
+    let walked = descended (c .before .before .before .before) in
     let e = walked .descend in
     omega (arith, room-left walked .0, e .kept .1 .1 .1 .1 .1 .1 .0)
 
 write-pairs-requires : tie.Need-write-pairs-requires
 write-pairs-requires c κs =
-    let p = c .before .before .before .before .before .put-pair in
-    let walked = c .before .before .before .before .before .before .before .before .before .before in
+    let p = c .before .before .before .before .before .set-pair in
+    let walked = descended (c .before .before .before .before .before) in
     let e = walked .descend in
-    let start = walked .before .before .before .before .before .before .before .before .before .before .before .before in
+    let start = begun (walked .before) in
     let d = start .pre .0 in (
       start .args .n .0,
       walkable d,
@@ -91,11 +98,11 @@ same-length c = search needs
 
 returns : tie.Need-returns
 returns c =
-    let p = c .before .before .before .before .before .before .before .before .before .before .put-pair in
+    let p = c .before .before .before .before .before .before .before .before .before .before .set-pair in
     let w = c .before .before .before .before .write-pairs in
-    let walked = c .before .before .before .before .before .before .before .before .before .before .before .before .before .before .before in
+    let walked = descended (c .before .before .before .before .before .before .before .before .before .before) in
     let e = walked .descend in
-    let start = walked .before .before .before .before .before .before .before .before .before .before .before .before in
+    let start = begun (walked .before) in
     let a = start .args in
     let factors = w .last .1 .1 .1 .1 .1 .1 .1 .1 .1 .1 .0 in
     let advance =
@@ -113,9 +120,9 @@ write-witness-spec =
     slice-aggregate-descend
     slice-aggregate-descend-2
     descend-requires
-    slice-aggregate-put-pair
-    slice-aggregate-put-pair-2
-    put-pair-requires
+    slice-aggregate-set-pair
+    slice-aggregate-set-pair-2
+    set-pair-requires
     slice-aggregate-write-pairs
     slice-aggregate-write-pairs-2
     add-write-pairs
