@@ -1,9 +1,9 @@
--- A table is exact where each entry is the least number of factors that leads from the one state to the other, or n + 1. That is the same as
+-- A table is exact where each entry is the least weight of a series that leads from the one state to the other, or n + 1. That is the same as
 -- closed and sound.
 --     exact-of-closed                a table that is closed and sound is exact
 --     exact-closed, exact-sound      an exact table is closed and sound
 --     exact-positive                 no entry is 0
--- Assumes nothing, except that the generators are reduced where closed gives exact.
+-- Assumes that a series weighs what its parts weigh together and a factor 1 or more, and that the generators are reduced where closed gives exact.
 use mathlib.Core.Path.{_≡_, refl, sym}
 use mathlib.Core.List.{List, [], _∷_, _++_, nil≢cons, append-ne-nil-of-right-ne-nil}
 use Prim.Native.Nat.{ℕ, _+_, _≤_}
@@ -13,7 +13,7 @@ use lib.ListN.{length-append}
 use Rattle.words.specs.Word.{R, S, Word}
 use Rattle.words.proofs.Reduced.{reduced-of-normal}
 use Rattle.products.specs.Product.{generator, Factor, measure}
-use Rattle.products.specs.State.{AllNormal, LeastLead}
+use Rattle.products.specs.State.{AllNormal, LeastBy}
 use Rattle.products.proofs.States.{State, nothing, suffix, Leads, A, B, C, D, E, state-tail, step-leads, leads-append, leads-behind}
 use Rattle.products.proofs.OneStep.{AllReduced}
 use Rattle.products.proofs.Tables.{Closed, Sound, sound-positive, table-least}
@@ -29,48 +29,54 @@ measure-append a b = length-append a b
 pub measure-factor : (gens : List Word) (j : ℕ) → Factor gens j → 1 ≤ measure (j ∷ [])
 measure-factor gens j f = omega arith
 
-abbrev pub Exact : List Word → ℕ → (Word → Word → ℕ) → Type 0
-Exact gens n T = (u v : Word) → State gens u → State gens v → LeastLead gens n u v (T u v)
+abbrev pub ExactBy : List Word → (List ℕ → ℕ) → ℕ → (Word → Word → ℕ) → Type 0
+ExactBy gens weight n T = (u v : Word) → State gens u → State gens v → LeastBy gens weight n u v (T u v)
 
-module _ (gens : List Word) (n : ℕ) (T : Word → Word → ℕ) where
-  pub exact-of-closed : AllReduced gens → Closed gens measure n T → Sound gens measure n T
-      → ((u v : Word) → State gens u → State gens v → T u v ≤ n + 1) → Exact gens n T
+abbrev pub Exact : List Word → ℕ → (Word → Word → ℕ) → Type 0
+Exact gens n T = ExactBy gens measure n T
+
+module _ (gens : List Word)
+    (weight : List ℕ → ℕ) (weight-append : (a b : List ℕ) → weight (a ++ b) ≡ weight a + weight b)
+    (weight-factor : (j : ℕ) → Factor gens j → 1 ≤ weight (j ∷ []))
+    (n : ℕ) (T : Word → Word → ℕ) where
+  pub exact-of-closed : AllReduced gens → Closed gens weight n T → Sound gens weight n T
+      → ((u v : Word) → State gens u → State gens v → T u v ≤ n + 1) → ExactBy gens weight n T
   exact-of-closed all closed sound bounded u v s t =
       record {
         bounded = bounded u v s t;
         led = sound .led u v s t;
-        least = table-least gens measure measure-append (measure-factor gens) n T all closed u v s t;
+        least = table-least gens weight weight-append weight-factor n T all closed u v s t;
       }
 
-  module _ (exact : Exact gens n T) where
-    pub exact-sound : Sound gens measure n T
+  module _ (exact : ExactBy gens weight n T) where
+    pub exact-sound : Sound gens weight n T
     exact-sound = record { led = λ u v s t. exact u v s t .led }
 
-    -- an entry up to n is the number of a series' factors, and so at least 1; any other is n + 1
+    -- an entry up to n is the weight of a series, and so at least 1; any other is n + 1
     pub exact-positive : (u v : Word) → State gens u → State gens v → 1 ≤ T u v
     exact-positive u v s t =
         elim (decLe (T u v) n) [
-          | yes h ↦ sound-positive gens measure measure-append (measure-factor gens) n T exact-sound u v s t h
+          | yes h ↦ sound-positive gens weight weight-append weight-factor n T exact-sound u v s t h
           | no h ↦ omega arith
         ]
 
     -- What leads from x to p leads from u to q. So the entry there is no more than the one here.
-    from-one : (x p u q : Word) → State gens x → State gens p → State gens u → State gens q
+    pub from-one : (x p u q : Word) → State gens x → State gens p → State gens u → State gens q
         → ((r : List ℕ) → Leads gens x r p → Leads gens u r q) → T x p ≤ n → T u q ≤ T x p
     from-one x p u q sx sp su sq on h =
         let (r, ne, l, e) = exact x p sx sp .led h in
         rw (← e) (exact u q su sq .least r ne (on r l) (rw (← e) at h))
 
     -- the same of two series, one behind the other
-    from-two : (x p y o u q : Word) → State gens x → State gens p → State gens y → State gens o → State gens u → State gens q
+    pub from-two : (x p y o u q : Word) → State gens x → State gens p → State gens y → State gens o → State gens u → State gens q
         → ((a b : List ℕ) → Leads gens x a p → Leads gens y b o → Leads gens u (a ++ b) q) → T x p + T y o ≤ n → T u q ≤ T x p + T y o
     from-two x p y o u q sx sp sy so su sq on h =
         let (a, ne, l, e) = exact x p sx sp .led (omega arith) in
         let (b, ne′, m, e′) = exact y o sy so .led (omega arith) in
-        let sum = measure-append a b in
+        let sum = weight-append a b in
         omega (arith, exact u q su sq .least (a ++ b) (append-ne-nil-of-right-ne-nil a ne′) (on a b l m) (omega arith))
 
-    pub exact-closed : Closed gens measure n T
+    pub exact-closed : Closed gens weight n T
     exact-closed =
         record {
           A = λ j f h. exact [] (generator gens j) nothing (suffix j [] f refl) .least (j ∷ []) (λ e. nil≢cons (sym e)) (step-leads gens (A j f)) h;

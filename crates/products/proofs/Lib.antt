@@ -5,12 +5,14 @@ pub mod OneStep
 pub mod Induction
 pub mod FirstLetter
 pub mod Tables
-pub mod Undo
 pub mod Rows
 pub mod Reducing
 pub mod Rivals
 pub mod Exact
+pub mod Order
+pub mod Halves
+pub mod Firsts
+pub mod RowClasses
+pub mod RowFirsts
 pub mod Verdict
-pub mod Spelling
-pub mod Walking
 pub mod Generators

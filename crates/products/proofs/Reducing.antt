@@ -28,6 +28,7 @@ module _ (g h : List Word) (t u : Word) (series : (r : List ℕ) → Series g r 
         reaches = reaches factors .0 (right .reaches);
         counts = right .counts;
         least = λ r k e. right .least r (rival-back k) (reaches r .1 e);
+        first = λ r k e m b. right .first r (rival-back k) (reaches r .1 e) m b;
       }
 
 nf-nothing : nf [] ≡ []

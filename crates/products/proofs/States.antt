@@ -112,7 +112,7 @@ module _ (gens : List Word) where
   leads-behind p {u} {v} {r} l = record { series = l .series; equal = rw (append-assoc p u (letters gens r)) (equal-behind p (l .equal)) }
 
   -- what is put in front of u cancels with the letters in front of q
-  leads-cancel : (p c : Word) {u q : Word} {r : List ℕ} → Equal (p ++ c) [] → Leads gens u r (c ++ q) → Leads gens (p ++ u) r q
+  pub leads-cancel : (p c : Word) {u q : Word} {r : List ℕ} → Equal (p ++ c) [] → Leads gens u r (c ++ q) → Leads gens (p ++ u) r q
   leads-cancel p c {u} {q} {r} n l =
       record { series = l .series; equal = then (leads-behind p l .equal) (rw (append-assoc p c q) at (equal-before q n)) }
 

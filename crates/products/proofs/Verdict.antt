@@ -1,33 +1,27 @@
 -- The rows of a target decide.
 --     rows-closed-of, rows-attained-of         one round of rule F over what is read gives rows that are closed and attained
---     rows-sound                               each entry up to n is the number of factors of a series that makes the entry's word
---     verdict-none, verdict-member             what the last row's entry at nothing says of the target
+--     verdict-none, verdict-first              what the last row's entry at nothing says of the target
 --     verdict-empty                            the empty product reaches a target that equals nothing
 -- Assumes that the generators and the target are reduced.
 use mathlib.Core.Path.{_≡_, refl, sym}
 use mathlib.Core.Logic.{_≢_, _⊎_, inl, inr}
-use mathlib.Core.List.{List, [], _∷_, _++_, nil≢cons, append-ne-nil-of-right-ne-nil}
+use mathlib.Core.List.{List, [], _∷_, append-nil, nil≢cons}
 use Prim.Native.Nat.{ℕ, zero, suc, _+_, _≤_, _<_}
 use native.Mathlib.Omega.{arith}
 use lib.ListN.{length, take, getD}
+use lib.Seq.{take-length}
 use Rattle.words.specs.Word.{Letter, R, Word, Equal}
 use Rattle.words.proofs.Reduced.{Reduced}
-use Rattle.products.specs.Product.{Series, letters, Reaches, measure, Rival, NoneRight, MemberRight}
-use Rattle.products.proofs.States.{State, nothing, series-append, state-tail}
+use Rattle.products.specs.Product.{Reaches, measure, Rival, NoneRight, MemberRight}
+use Rattle.products.proofs.States.{State, state-tail}
 use Rattle.products.proofs.OneStep.{AllReduced}
 use Rattle.products.proofs.FirstLetter.{equal-reduced}
-use Rattle.products.proofs.Rows.{RowsClosed, read-sound, chain-sound, rows-least}
+use Rattle.products.proofs.Order.{NoLater, before-nothing, no-later-not-before}
+use Rattle.products.proofs.Rows.{FromRow, RowsClosed, RowsAttained}
+use Rattle.products.proofs.RowClasses.{reads-series, reads-made, rows-least}
+use Rattle.products.proofs.RowFirsts.{RowFirst, row-first-all}
 use Rattle.products.proofs.Rivals.{rival-of}
 use Rattle.products.proofs.Exact.{Exact, measure-append, measure-factor, exact-closed}
-
--- a series of k factors, one or more, makes the word of row i at q
-abbrev pub RowMade : List Word → Word → ℕ → Word → ℕ → Type 0
-RowMade gens x i q k = (r : List ℕ) × (r ≢ []) × Series gens r × Equal (letters gens r) (take i x ++ q) × (measure r ≡ k)
-
--- The entry of row i + 1 at q is row i's where the letter a is read, or such an entry and the table's together.
-abbrev pub FromRow : List Word → (Word → Word → ℕ) → (ℕ → Word → ℕ) → ℕ → Letter → Word → Type 0
-FromRow gens T Row i a q =
-    (State gens (a ∷ q) × (Row (suc i) q ≡ Row i (a ∷ q))) ⊎ ((v : Word) × State gens (a ∷ v) × (Row (suc i) q ≡ Row i (a ∷ v) + T v q))
 
 -- m is no less than what is read at q, or than what is read at some state and the table's entry from there to q together
 abbrev pub AtLeast : List Word → (Word → Word → ℕ) → (Word → ℕ) → Word → ℕ → Type 0
@@ -37,14 +31,9 @@ AtLeast gens T read q m = (read q ≤ m) ⊎ ((v : Word) × State gens v × (rea
 pub at-least-on : (gens : List Word) (n : ℕ) (T : Word → Word → ℕ) → Exact gens n T → (read : Word → ℕ) (v q : Word) (m : ℕ)
     → State gens v → State gens q → m + T v q ≤ n → AtLeast gens T read v m → AtLeast gens T read q (m + T v q)
 at-least-on gens n T exact read v q m s t h (inl e) = inr (v, s, omega arith)
-at-least-on gens n T exact read v q m s t h (inr (w, s′, e)) = inr (w, s′, omega (arith, exact-closed gens n T exact .F w v q s′ s t (omega arith)))
+at-least-on gens n T exact read v q m s t h (inr (w, s′, e)) = inr (w, s′, omega (arith, exact-closed gens measure measure-append (measure-factor gens) n T exact .F w v q s′ s t (omega arith)))
 
 module _ (gens : List Word) (n : ℕ) (T : Word → Word → ℕ) (x : Word) (Row : ℕ → Word → ℕ) where
-  -- Each entry up to n comes from the row before. That rows are closed and sound does not give this, and a witness cannot be walked without it.
-  pub record RowsAttained : Type 0 where
-    pub first : (q : Word) → State gens q → Row 0 q ≡ T [] q
-    pub attained : (i : ℕ) (a : Letter) (q : Word) → i < length x → getD x i R ≡ a → State gens q → Row (suc i) q ≤ n → FromRow gens T Row i a q
-
   -- How a row is made of the one before. `Read i q` is what is read at q: the entry of row i at the state with the letter in front, and more
   -- than n where there is no such state. Then one round of rule F over what was read: an entry is no more than any of its sums that is up to
   -- n, and, where it is up to n itself, no less than one of them.
@@ -56,7 +45,7 @@ module _ (gens : List Word) (n : ℕ) (T : Word → Word → ℕ) (x : Word) (Ro
     pub round : (i : ℕ) (v q : Word) → i < length x → State gens v → State gens q → Read i v + T v q ≤ n → Row (suc i) q ≤ Read i v + T v q
     pub attained : (i : ℕ) (q : Word) → i < length x → State gens q → Row (suc i) q ≤ n → AtLeast gens T (Read i) q (Row (suc i) q)
 
-  pub rows-attained-of : (Read : ℕ → Word → ℕ) → Rounds Read → RowsAttained
+  pub rows-attained-of : (Read : ℕ → Word → ℕ) → Rounds Read → RowsAttained gens n T x Row
   rows-attained-of Read rounds = record { first = rounds .first; attained = λ i a q h e s k. by-state i a q h e s k (rounds .attained i q h s k) }
     where
       by-state : (i : ℕ) (a : Letter) (q : Word) → i < length x → getD x i R ≡ a → State gens q → Row (suc i) q ≤ n
@@ -91,52 +80,34 @@ module _ (gens : List Word) (n : ℕ) (T : Word → Word → ℕ) (x : Word) (Ro
             no-more i q (Row (suc i) v + T v q) h t k
             (at-least-on gens n T exact (Read i) v q (Row (suc i) v) s t k (rounds .attained i v h s (omega arith)))
 
-    pub rows-sound : RowsAttained → (i : ℕ) → i ≤ length x → (q : Word) → State gens q → Row i q ≤ n → RowMade gens x i q (Row i q)
-    rows-sound rows zero h q s k =
-        let same = rows .first q s in
-        let (r, ne, l, e) = exact [] q nothing s .led (omega arith) in
-        (r, ne, l .series, l .equal, omega arith)
-    rows-sound rows (suc i) h q s k = next (λ p t m. rows-sound rows i (omega arith) p t m) (rows .attained i a q h refl s k)
-      where
-        a : Letter
-        a = getD x i R
-
-        next : ((p : Word) → State gens p → Row i p ≤ n → RowMade gens x i p (Row i p)) → FromRow gens T Row i a q → RowMade gens x (suc i) q (Row (suc i) q)
-        next before (inl (t, e)) =
-            let (r, ne, series, made, m) = before (a ∷ q) t (omega arith) in
-            (r, ne, series, read-sound gens x i a q r h refl made, omega arith)
-        next before (inr (v, t, e)) =
-            let (r, ne, series, made, m) = before (a ∷ v) t (omega arith) in
-            let (r′, ne′, l, m′) = exact v q (state-tail gens t) s .led (omega arith) in
-            let sum = measure-append r r′ in (
-              r ++ r′,
-              append-ne-nil-of-right-ne-nil r ne′,
-              series-append gens r r′ series (l .series),
-              chain-sound gens x (suc i) v q r r′ (read-sound gens x i a v r h refl made) l,
-              omega arith,
-            )
-
 module _ (gens : List Word) (n : ℕ) (T : Word → Word → ℕ) (x : Word) (Row : ℕ → Word → ℕ)
     (all : AllReduced gens) (exact : Exact gens n T) (rows : RowsClosed gens n T x Row) (reduced : Reduced x) (some : x ≢ []) where
   -- the empty series reaches no reduced word but the empty one, so every rival that reaches x has a factor
   rival-least : (r : List ℕ) → Rival gens n r → Reaches gens r x → Row (length x) [] ≤ measure r
   rival-least [] k e = absurd (some (sym (equal-reduced tt reduced e)))
   rival-least (j ∷ r) k e =
-      rows-least gens measure measure-append (measure-factor gens) n T x Row all (exact-closed gens n T exact) rows reduced
+      rows-least gens measure measure-append n T x Row exact all rows reduced
       (j ∷ r) (λ f. nil≢cons (sym f)) (k .series) e (k .within)
 
   pub verdict-none : n < Row (length x) [] → NoneRight gens x n
   verdict-none h r k e = let within = k .within in omega (arith, rival-least r k e)
 
-  pub verdict-member : (factors : List ℕ) → Series gens factors → Reaches gens factors x → measure factors ≡ Row (length x) [] → Row (length x) [] ≤ n
+  -- the first series of the last row at nothing
+  pub verdict-first : (factors : List ℕ) → RowFirst gens measure T x Row (length x) [] factors → Row (length x) [] ≤ n
       → MemberRight gens x n factors (length factors)
-  verdict-member factors series reaches count h =
+  verdict-first factors f h =
+      let weighs = f .weighs in
       record {
-        rival = rival-of series (omega arith);
-        reaches = reaches;
+        rival = rival-of (reads-series gens x (f .reads)) (omega arith);
+        reaches = rw (append-nil (take (length x) x), take-length x) at (reads-made gens x (f .reads));
         counts = refl;
         least = λ r k e. omega (arith, rival-least r k e);
+        first = λ r k e m b. no-later-not-before (no-later r k e m) b;
       }
+    where
+      no-later : (r : List ℕ) → Rival gens n r → Reaches gens r x → measure r ≡ measure factors → NoLater factors r
+      no-later [] k e m = absurd (some (sym (equal-reduced tt reduced e)))
+      no-later (j ∷ r) k e m = row-first-all gens measure T x Row all reduced factors f (j ∷ r) (λ g. nil≢cons (sym g)) (k .series) e m
 
 pub verdict-empty : (gens : List Word) (target : Word) → Equal [] target → (n : ℕ) → MemberRight gens target n [] 0
 verdict-empty gens target e n =
@@ -145,4 +116,5 @@ verdict-empty gens target e n =
       reaches = e;
       counts = refl;
       least = λ r k f. omega arith;
+      first = λ r k f m b. before-nothing b;
     }

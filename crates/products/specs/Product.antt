@@ -25,10 +25,14 @@ generator gens i = getD gens i []
 abbrev pub Factor : List Word → ℕ → Type 0
 Factor gens i = i < length gens
 
+-- each number of a list is such a one
+abbrev pub Each : (ℕ → Type 0) → List ℕ → Type 0
+Each P [] = Unit {0}
+Each P (i ∷ r) = P i × Each P r
+
 -- 01: "A product is a series of generator numbers, each below the number of generators; the empty series is the identity."
 abbrev pub Series : List Word → List ℕ → Type 0
-Series gens [] = Unit {0}
-Series gens (i ∷ r) = Factor gens i × Series gens r
+Series gens r = Each (Factor gens) r
 
 -- The letters of a series' factors, written one behind the other.
 abbrev pub letters : List Word → List ℕ → Word
@@ -57,9 +61,17 @@ pub record Rival (gens : List Word) (n : ℕ) (r : List ℕ) : Type 0 where
 abbrev pub NoneRight : List Word → Word → ℕ → Type 0
 NoneRight gens target n = (r : List ℕ) → Rival gens n r → Reaches gens r target → ⊥
 
--- `member` is right: its factors are a rival that reaches the target, its count is how many they are, and no rival that reaches it has fewer.
+-- Which of two series stands before the other: at the first place where they differ it has the smaller number. 02, M-100: "first when generator
+-- numbers are compared from left to right".
+pub data Before : List ℕ → List ℕ → Type 0 where
+  smaller : {i j : ℕ} {r s : List ℕ} → i < j → Before (i ∷ r) (j ∷ s)
+  further : {i : ℕ} {r s : List ℕ} → Before r s → Before (i ∷ r) (i ∷ s)
+
+-- `member` is right: its factors are a rival that reaches the target, its count is how many they are, and no rival that reaches it has fewer. 02, M-100:
+-- "A rival that reaches the target with equal count therefore never stands before it."
 pub record MemberRight (gens : List Word) (target : Word) (n : ℕ) (factors : List ℕ) (count : ℕ) : Type 0 where
   pub rival : Rival gens n factors
   pub reaches : Reaches gens factors target
   pub counts : count ≡ length factors
   pub least : (r : List ℕ) → Rival gens n r → Reaches gens r target → measure factors ≤ measure r
+  pub first : (r : List ℕ) → Rival gens n r → Reaches gens r target → measure r ≡ measure factors → Before r factors → ⊥

@@ -23,8 +23,12 @@ module _ (gens : List Word) where
     pub series : Series gens r
     pub equal : Equal (u ++ letters gens r) v
 
-  -- k is the least measure of a series, of one factor or more, that leads from u to v; or n + 1, where that is above n
-  pub record LeastLead (n : ℕ) (u v : Word) (k : ℕ) : Type 0 where
+  -- k is the least weight of a series, of one factor or more, that leads from u to v; or n + 1, where that is above n
+  pub record LeastBy (weight : List ℕ → ℕ) (n : ℕ) (u v : Word) (k : ℕ) : Type 0 where
     pub bounded : k ≤ n + 1
-    pub led : k ≤ n → (r : List ℕ) × (r ≢ []) × Leads u r v × (measure r ≡ k)
-    pub least : (r : List ℕ) → r ≢ [] → Leads u r v → measure r ≤ n → k ≤ measure r
+    pub led : k ≤ n → (r : List ℕ) × (r ≢ []) × Leads u r v × (weight r ≡ k)
+    pub least : (r : List ℕ) → r ≢ [] → Leads u r v → weight r ≤ n → k ≤ weight r
+
+  -- that for the measure
+  abbrev pub LeastLead : ℕ → Word → Word → ℕ → Type 0
+  LeastLead n u v k = LeastBy measure n u v k
