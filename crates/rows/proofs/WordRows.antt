@@ -26,7 +26,7 @@ use Rattle.tables.specs.Rules.{place}
 use Rattle.rows.specs.Rows.{readNode, readEntry, PathRows}
 
 -- the letter at a place of a word that bytes spell
-letter-at : (bs : List ℕ) (i : ℕ) → i < length bs → getD (word bs) i R ≡ letter (at bs i)
+pub letter-at : (bs : List ℕ) (i : ℕ) → i < length bs → getD (word bs) i R ≡ letter (at bs i)
 letter-at [] i h = absurd (not-suc-le-zero h)
 letter-at (b ∷ bs) zero h = refl
 letter-at (b ∷ bs) (suc i) h = letter-at bs i (le-of-suc-le-suc h)

@@ -6,8 +6,8 @@ use Prim.Native.Nat.{ℕ, _<_}
 use native.Mathlib.Omega.{arith}
 use Rattle.words.specs.Word.{R, S, Word, nf}
 use Rattle.words.proofs.NormalForm.{equal-of-nf}
-use Rattle.products.specs.Product.{letters, measure, Reaches, Rival, NoneRight, MemberRight}
-use Rattle.worked.proofs.Trying.{misses, none-by-trying}
+use Rattle.products.specs.Product.{letters, measure, Reaches, Rival, NoneRight, MemberRight, smaller}
+use Rattle.worked.proofs.Trying.{misses, missesBefore, none-by-trying, first-by-trying}
 use Rattle.worked.proofs.Values.{least-above, P9, list10, list11, P11}
 
 -- factors beside which a shorter rival reaches the target
@@ -25,13 +25,14 @@ both = (S ∷ R ∷ []) ∷ (S ∷ R ∷ S ∷ R ∷ []) ∷ []
 
 -- without it two factors are the least ..
 pub dropped-right : MemberRight once (S ∷ R ∷ S ∷ R ∷ []) 2 (0 ∷ 0 ∷ []) 2
-unfolding nf misses
+unfolding nf misses missesBefore
 dropped-right =
     record {
       rival = record { series = (omega arith, (omega arith, tt)); counted = tt; within = omega arith };
       reaches = equal-of-nf (letters once (0 ∷ 0 ∷ [])) (S ∷ R ∷ S ∷ R ∷ []) refl;
       counts = refl;
       least = least-above once (S ∷ R ∷ S ∷ R ∷ []) 1 (0 ∷ 0 ∷ []) refl (none-by-trying once (S ∷ R ∷ S ∷ R ∷ []) 1 refl) 2;
+      first = first-by-trying once (S ∷ R ∷ S ∷ R ∷ []) 2 (0 ∷ 0 ∷ []) refl;
     }
 
 -- .. with it they are one too many ..
@@ -57,7 +58,7 @@ above-the-bound-refused member = omega (arith, member .rival .within)
 pub another-count-refused : MemberRight list10 (R ∷ []) 4 (0 ∷ 1 ∷ 1 ∷ []) 4 → ⊥
 another-count-refused member = omega (arith, member .counts)
 
--- a count that an empty generator makes one too many; of two equal generators either is right
+-- a count that an empty generator makes one too many
 abbrev pub repeated : List Word
 repeated = [] ∷ (R ∷ []) ∷ (R ∷ []) ∷ []
 
@@ -66,6 +67,15 @@ unfolding nf
 empty-generator-refused =
     shorter-refused (0 ∷ 1 ∷ []) (2 ∷ []) (record { series = (omega arith, tt); counted = tt; within = omega arith })
     (equal-of-nf (letters repeated (2 ∷ [])) (R ∷ []) refl) (omega arith)
+
+-- ---- other series of the least count
+
+-- the second of two equal generators, though the first reaches the target as well
+pub second-of-equals-refused : MemberRight repeated (R ∷ []) 5 (2 ∷ []) 1 → ⊥
+unfolding nf
+second-of-equals-refused member =
+    member .first (1 ∷ []) (record { series = (omega arith, tt); counted = tt; within = omega arith }) (equal-of-nf (letters repeated (1 ∷ [])) (R ∷ []) refl)
+    refl (smaller (omega arith))
 
 -- ---- verdicts
 

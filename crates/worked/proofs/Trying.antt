@@ -1,16 +1,19 @@
--- A right `none` for a small bound, by trying every series: antt computes the test, and one law turns it into the statement.
+-- By trying every series, for a small bound: antt computes the test, and one law turns it into the statement.
+--     none-by-trying     a right `none`
+--     first-by-trying    no rival that reaches the target stands before these factors
 -- Assumes nothing.
 use mathlib.Core.Bool.{Bool, true, false, not}
 use mathlib.Core.Path.{_≡_, refl, sym, ap, _∙_}
 use mathlib.Core.List.{List, [], _∷_, _++_, append-assoc, append-nil}
 use Prim.Native.Nat.{ℕ, zero, suc, _≤_, _<_}
 use native.Mathlib.Nat.{le-of-suc-le-suc, not-suc-le-zero}
+use native.Mathlib.Decide.{decLt}
 use native.Mathlib.Omega.{arith}
 use lib.ListN.{length, getD}
 use Rattle.words.specs.Word.{R, S, Word, nf}
 use Rattle.refusals.specs.Telling.{pick}
 use Rattle.words.proofs.NormalForm.{nf-of-equal}
-use Rattle.products.specs.Product.{Series, letters, NoneRight}
+use Rattle.products.specs.Product.{Series, letters, measure, Reaches, Rival, NoneRight, Before, smaller, further}
 
 -- two words are the same, letter by letter
 abbrev pub same : Word → Word → Bool
@@ -72,3 +75,40 @@ missed gens form (suc n) p (i ∷ r) l s e h =
 
 pub none-by-trying : (gens : List Word) (target : Word) (n : ℕ) → misses gens (nf target) n [] ≡ true → NoneRight gens target n
 none-by-trying gens target n e r rival reaches = missed gens (nf target) n [] r (rival .within) (rival .series) e (nf-of-equal reaches)
+
+abbrev everyBelow : ℕ → (ℕ → Bool) → Bool
+everyBelow zero test = true
+everyBelow (suc j) test = both (test j) (everyBelow j test)
+
+below-at : (j : ℕ) (test : ℕ → Bool) (i : ℕ) → i < j → everyBelow j test ≡ true → test i ≡ true
+below-at zero test i h e = absurd (not-suc-le-zero h)
+below-at (suc j) test i h e =
+    elim (decLt i j) [
+      | yes l ↦ below-at j test i l (both-right (test j) (everyBelow j test) e)
+      | no l ↦ let last : j ≡ i = omega arith in rw last at (both-left (test j) (everyBelow j test) e)
+    ]
+
+-- no series that stands before these factors, put behind the word p, makes a word with that normal form
+unfoldable pub missesBefore : List Word → Word → List ℕ → Word → Bool
+missesBefore gens form [] p = true
+missesBefore gens form (j ∷ f) p =
+    both (everyBelow j (λ (i : ℕ). misses gens form (length f) (p ++ getD gens i []))) (missesBefore gens form f (p ++ getD gens j []))
+
+missed-before : (gens : List Word) (form : Word) (p : Word) {r f : List ℕ} → Before r f → length r ≤ length f → Series gens r → missesBefore gens form f p ≡ true
+    → nf (p ++ letters gens r) ≡ form → ⊥
+unfolding missesBefore
+missed-before gens form p (smaller {i} {j} {r} {s} h) l t e m =
+    let test : ℕ → Bool = λ k. misses gens form (length s) (p ++ getD gens k []) in
+    missed gens form (length s) (p ++ getD gens i []) r (le-of-suc-le-suc l) (t .1)
+    (below-at j test i h (both-left (everyBelow j test) (missesBefore gens form s (p ++ getD gens j [])) e))
+    (ap nf (append-assoc p (getD gens i []) (letters gens r)) ∙ m)
+missed-before gens form p (further {i} {r} {s} b) l t e m =
+    let test : ℕ → Bool = λ k. misses gens form (length s) (p ++ getD gens k []) in
+    missed-before gens form (p ++ getD gens i []) b (le-of-suc-le-suc l) (t .1)
+    (both-right (everyBelow i test) (missesBefore gens form s (p ++ getD gens i [])) e)
+    (ap nf (append-assoc p (getD gens i []) (letters gens r)) ∙ m)
+
+pub first-by-trying : (gens : List Word) (target : Word) (n : ℕ) (factors : List ℕ) → missesBefore gens (nf target) factors [] ≡ true
+    → (r : List ℕ) → Rival gens n r → Reaches gens r target → measure r ≡ measure factors → Before r factors → ⊥
+first-by-trying gens target n factors e r rival reaches m b =
+    missed-before gens (nf target) [] b (omega arith) (rival .series) e (nf-of-equal reaches)

@@ -12,7 +12,8 @@ use Rattle.words.specs.Word.{R, S, Word, sss, none, nf, inverse}
 use Rattle.words.proofs.NormalForm.{nf-normal, equal-of-nf}
 use Rattle.unimodular.specs.Matrix.{signed, matrixOf, NormalFormOf}
 use Rattle.products.specs.Product.{letters, Reaches, Rival, NoneRight, MemberRight}
-use Rattle.worked.proofs.Trying.{misses, none-by-trying}
+use Rattle.products.proofs.Order.{before-nothing}
+use Rattle.worked.proofs.Trying.{misses, missesBefore, none-by-trying, first-by-trying}
 
 -- P1: "RR and SSS give the empty word."
 pub P1 : (nf (R ∷ R ∷ []) ≡ []) × (nf (S ∷ S ∷ S ∷ []) ≡ [])
@@ -63,6 +64,7 @@ P8 =
       reaches = none;
       counts = refl;
       least = λ r rival reaches. zero-le;
+      first = λ r rival reaches same before. before-nothing before;
     }
 
 -- P9: "empty list, target R, n 1000: none."
@@ -79,13 +81,14 @@ unfolding nf misses
 P10-none = none-by-trying list10 (R ∷ []) 2 refl
 
 pub P10 : MemberRight list10 (R ∷ []) 3 (0 ∷ 1 ∷ 1 ∷ []) 3
-unfolding nf
+unfolding nf misses missesBefore
 P10 =
     record {
       rival = record { series = (omega arith, (omega arith, (omega arith, tt))); counted = tt; within = omega arith };
       reaches = equal-of-nf (letters list10 (0 ∷ 1 ∷ 1 ∷ [])) (R ∷ []) refl;
       counts = refl;
       least = least-above list10 (R ∷ []) 2 (0 ∷ 1 ∷ 1 ∷ []) refl P10-none 3;
+      first = first-by-trying list10 (R ∷ []) 3 (0 ∷ 1 ∷ 1 ∷ []) refl;
     }
 
 -- P11: "generators RSRS, S, SRSS; target R; n 3: member with count 3, reached by 0 1 2; with n 2, none." The three S's that cancel come
@@ -98,13 +101,14 @@ unfolding nf misses
 P11-none = none-by-trying list11 (R ∷ []) 2 refl
 
 pub P11 : MemberRight list11 (R ∷ []) 3 (0 ∷ 1 ∷ 2 ∷ []) 3
-unfolding nf
+unfolding nf misses missesBefore
 P11 =
     record {
       rival = record { series = (omega arith, (omega arith, (omega arith, tt))); counted = tt; within = omega arith };
       reaches = equal-of-nf (letters list11 (0 ∷ 1 ∷ 2 ∷ [])) (R ∷ []) refl;
       counts = refl;
       least = least-above list11 (R ∷ []) 2 (0 ∷ 1 ∷ 2 ∷ []) refl P11-none 3;
+      first = first-by-trying list11 (R ∷ []) 3 (0 ∷ 1 ∷ 2 ∷ []) refl;
     }
 
 -- P12: "generator SSS, empty target, n 5: member 0, not 1."
@@ -118,6 +122,7 @@ P12 =
       reaches = none;
       counts = refl;
       least = λ r rival reaches. zero-le;
+      first = λ r rival reaches same before. before-nothing before;
     }
 
 -- .. though one factor reaches the empty target too
