@@ -1,0 +1,3 @@
+pub mod Derivations
+pub mod Ways
+pub mod Query
