@@ -1,0 +1,15 @@
+pub mod Numbers
+pub mod Stacked
+pub mod Parted
+pub mod Taking
+pub mod Deciding
+pub mod Candidates
+pub mod Best
+pub mod Halfway
+pub mod Places
+pub mod Ranks
+pub mod Marks
+pub mod MarkSweeps
+pub mod ItemChoices
+pub mod ChoiceSweeps
+pub mod Results

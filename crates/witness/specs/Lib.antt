@@ -1,0 +1,9 @@
+pub mod Choices
+pub mod Stacks
+pub mod Comparing
+pub mod Choosing
+pub mod Spelling
+pub mod Marking
+pub mod Sweeping
+pub mod Room
+pub mod Witness
