@@ -1,10 +1,10 @@
 -- A reduced list fits the slices of a tree, the tree and the sizes fit the search, and what the search finds is the verdict. Assumes nothing.
 use mathlib.Core.Path.{_≡_, sym, ap, subst, _∙_}
 use mathlib.Core.List.{List}
-use Prim.Native.Nat.{ℕ, suc, _*_, _≤_}
+use Prim.Native.Nat.{ℕ, suc, _+_, _*_, _≤_}
 use native.Mathlib.Nat.{mul-le-mul}
 use native.Mathlib.Omega.{arith}
-use lib.ListN.{length, drop, length-map}
+use lib.ListN.{length, length-map}
 use Rattle.limits.specs.Limits.{mostStates}
 use Rattle.words.specs.Word.{Word, Normal}
 use Rattle.words.specs.Bytes.{letter, word}
@@ -18,9 +18,10 @@ use Rattle.trees.specs.Building.{Fits as TreeFits, Slices, BuildsTree}
 use Rattle.trees.proofs.Remaining.{drop-later}
 use Rattle.tables.specs.Nodes.{Linked}
 use Rattle.tables.proofs.Exact.{tree-linked}
-use Rattle.search.specs.Search.{Lent, Fits, Posed, Right, Searches}
+use Rattle.search.specs.Search.{Lent, used, Fits, Posed, Answers, Searches}
 use Rattle.search.specs.declared.Found.{Found}
 use Rattle.search.specs.declared.Found.the-variants.{Series, None, Unfit}
+use Rattle.engine.specs.Calls.{VerdictRight}
 use Rattle.engine.specs.Judging.{ofFound, ReducedList, Settled}
 
 pub list-fits : {bytes ends : List ℕ} (letters rests childrenR childrenS wholes : List ℕ) → ReducedList bytes ends
@@ -39,16 +40,20 @@ list-fits letters rests childrenR childrenS wholes r l e cr cs w =
       room-wholes = w;
     }
 
--- The tree has no more nodes than q, and no more than q rows are made: so the table and the rows fit in q × q entries.
-module _ (m t count : ℕ) (few : count ≤ suc m) where
-  table-within : count * count ≤ side m t * side m t
-  table-within = let small : count ≤ side m t = omega arith in mul-le-mul small small
+-- The tree has no more nodes than the list has letters, and one; so where the form has a letter, a row for each node and for each letter and one more fit in
+-- q × q entries.
+used-within : (m t count : ℕ) → count ≤ suc m → 1 ≤ t → used count t ≤ side m t * side m t
+used-within m t count few some =
+    let rows : count + suc t ≤ side m t = omega arith in
+    let nodes : count ≤ side m t = omega arith in
+    mul-le-mul rows nodes
 
-  rows-within : suc t * count ≤ side m t * side m t
-  rows-within =
-      let small : count ≤ side m t = omega arith in
-      let low : suc t ≤ side m t = omega arith in
-      mul-le-mul low small
+-- an answer is a verdict
+verdict-right : (gens : List Word) (form : List ℕ) (n : ℕ) (before after : List ℕ) (found : Found) → Answers gens form n before found after
+    → VerdictRight gens (word form) n (ofFound found) before after
+verdict-right gens form n before after (Series k) right = right
+verdict-right gens form n before after None right = right
+verdict-right gens form n before after Unfit right = right
 
 module _ (form : List ℕ) (n : ℕ) {bytes ends : List ℕ} {count : ℕ} {before after : Slices} (reduced : ReducedList bytes ends) (built : BuildsTree bytes ends before after count) where
   abbrev gens : List Word
@@ -66,7 +71,14 @@ module _ (form : List ℕ) (n : ℕ) {bytes ends : List ℕ} {count : ℕ} {befo
       }
 
   module _ (lent : Lent)
-      (passed : SizesPassed (length bytes) (length form) n (length (lent .first)) (length (lent .second)) (length (lent .witness))) where
+      (passed : SizesPassed (length bytes) (length form) n (length (lent .first)) (length (lent .second)) (length (lent .witness)))
+      (normal : Normal (word form)) (some : length form ≡ 0 → ⊥) where
+    abbrev q : ℕ
+    q = side (length bytes) (length form)
+
+    within : used count (length form) ≤ q * q
+    within = used-within (length bytes) (length form) count (built .few) (omega (arith, some))
+
     fits : Fits count (after .letters) (after .rests) (after .childrenR) (after .childrenS) (after .wholes) form n lent
     fits =
         let few = built .few in
@@ -76,36 +88,25 @@ module _ (form : List ℕ) (n : ℕ) {bytes ends : List ℕ} {count : ℕ} {befo
             short = omega (arith, passed .short);
             numbers = omega (arith, reduced .few, generators-length bytes 0 ends, built .tree .wholes-count);
             witness = passed .room;
-            rows = omega (arith, rows-within (length bytes) (length form) count few, passed .second-room);
+            first = omega (arith, within, passed .first-room);
+            second = omega (arith, within, passed .second-room);
           };
           table = record {
             shape = subst (λ (k : ℕ). Shape k (after .letters) (after .rests) (after .childrenR) (after .childrenS) (after .wholes)) (built .counted) (built .tree .shape);
             linked = subst (λ (k : ℕ). Linked k (after .letters) (after .rests) (after .childrenR) (after .childrenS)) (built .counted) (tree-linked (built .tree));
             few = omega (arith, few, reduced .short);
             bound = passed .bound;
-            room = omega (arith, table-within (length bytes) (length form) count few, passed .first-room);
+            room = omega (arith, within, passed .first-room);
           };
         }
 
-    abbrev q : ℕ
-    q = side (length bytes) (length form)
-
-    module _ (normal : Normal (word form)) (some : length form ≡ 0 → ⊥) (lent′ : Lent) where
-      abbrev Finds : Found → Type 0
-      Finds found = Right count (after .letters) (after .rests) (after .childrenR) (after .childrenS) (after .wholes) form n found lent lent′
-
-      first-kept : (found : Found) → Finds found → drop (q * q) (lent′ .first) ≡ drop (q * q) (lent .first)
-      first-kept found right =
-          drop-later (count * count) (q * q) (lent′ .first) (lent .first) (table-within (length bytes) (length form) count (built .few)) (right .first)
-
-      second-kept : (found : Found) → Finds found → drop (q * q) (lent′ .second) ≡ drop (q * q) (lent .second)
-      second-kept found right =
-          drop-later (suc (length form) * count) (q * q) (lent′ .second) (lent .second) (rows-within (length bytes) (length form) count (built .few)) (right .second)
-
-      -- what is searched fits, so what is found is right
-      pub settled : (found : Found) → Searches count (after .letters) (after .rests) (after .childrenR) (after .childrenS) (after .wholes) form n found lent lent′
-          → Settled q gens (word form) n (ofFound found) lent lent′
-      settled (Series k) right =
-          record { right = right .answers _ _ (posed normal some); first = first-kept (Series k) right; second = second-kept (Series k) right }
-      settled None right = record { right = right .answers _ _ (posed normal some); first = first-kept None right; second = second-kept None right }
-      settled Unfit (unfit, same) = absurd (unfit fits)
+    -- what is searched fits, so what is found is right
+    pub settled : (lent′ : Lent) (found : Found)
+        → Searches count (after .letters) (after .rests) (after .childrenR) (after .childrenS) (after .wholes) form n found lent lent′
+        → Settled q gens (word form) n (ofFound found) lent lent′
+    settled lent′ found searches =
+        record {
+          right = verdict-right gens form n (lent .witness) (lent′ .witness) found (searches .answers fits gens (numbered gens) (posed normal some));
+          first = drop-later (used count (length form)) (q * q) (lent′ .first) (lent .first) within (searches .first);
+          second = drop-later (used count (length form)) (q * q) (lent′ .second) (lent .second) within (searches .second);
+        }

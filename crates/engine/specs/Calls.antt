@@ -16,8 +16,8 @@ use Rattle.engine.specs.Questions.{ofProduct}
 use Rattle.engine.specs.declared.Verdict.{Verdict}
 use Rattle.engine.specs.declared.Verdict.the-variants.{Member, None, Refused as Verdict·Refused}
 
--- A verdict on the target, by the list's generators and the bound, with what the witness holds before and after. Which of several least
--- series is written is the program's choice; each has the least count and multiplies to the target.
+-- A verdict on the target, by the list's generators and the bound, with what the witness holds before and after. There is but one: a right member is the
+-- only one (`member-unique` of Rattle.products).
 abbrev pub VerdictRight : List Word → Word → ℕ → Verdict → List ℕ → List ℕ → Type 0
 VerdictRight gens target n (Member count) before after =
     MemberRight gens target n (take (count .0) after) (count .0) × (drop (count .0) after ≡ drop (count .0) before)

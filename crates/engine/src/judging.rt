@@ -1,4 +1,4 @@
-// From a list and a target to a verdict: both are reduced, the sizes are asked for, the tree is built, and a least series is searched for.
+// From a list and a target to a verdict: both are reduced, the sizes are asked for, the tree is built, and the first of the least series is searched for.
 use crate::Verdict;
 use search::Found;
 use trees::Built;

@@ -1,12 +1,4 @@
-mod Answers
-mod Choosing
-mod Stacked
-mod Advancing
-mod Premises
-mod Stepping
-mod Walks
-mod Descending
-mod TightRules
-mod Spelled
-mod LastRow
+mod SameRows
+mod Laid
+mod Deciding
 mod Tabulating

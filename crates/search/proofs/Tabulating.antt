@@ -1,15 +1,22 @@
--- The table and then the rows are filled, and what is known then. Assumes nothing.
+-- The table and then the rows are filled, and what is known then.
+--     tabulated      what the answer asks for
+--     searched       and what it answers is what the search promises
+--     unsearched     where the inputs do not fit nothing changes
+-- Assumes nothing.
 use mathlib.Core.Bool.{Bool, true, false}
+use mathlib.Core.Path.{refl, _∙_}
 use mathlib.Core.List.{List}
-use Prim.Native.Nat.{ℕ}
+use Prim.Native.Nat.{ℕ, suc, _*_}
 use native.Mathlib.Omega.{arith}
-use Rattle.words.specs.Word.{Word}
+use lib.ListN.{length}
+use Rattle.trees.proofs.Remaining.{drop-later}
 use Rattle.tables.specs.Filling.{Filled as TableFilled}
 use Rattle.rows.specs.Rows.{Fits as RowsFit, Filled as RowsFilled, Fills as FillsRows}
 use Rattle.rows.proofs.FilledFits.{filled-fits}
-use Rattle.search.specs.Search.{Lent, Fits, Query, Tabulated, Answered, Answers, Right, Searches}
+use Rattle.search.specs.Search.{Lent, used, Fits, Searches}
+use Rattle.search.specs.Answering.{Tabulated, Answered}
 use Rattle.search.specs.declared.Found.{Found}
-use Rattle.search.specs.declared.Found.the-variants.{Series, None, Unfit}
+use Rattle.search.specs.declared.Found.the-variants.{Unfit}
 
 -- rows that fit are filled
 rows-filled : (count n : ℕ) (childrenR childrenS target table before : List ℕ) (r : Bool) (after : List ℕ)
@@ -18,45 +25,59 @@ rows-filled : (count n : ℕ) (childrenR childrenS target table before : List �
 rows-filled count n childrenR childrenS target table before true after (fits, filled) fit = filled
 rows-filled count n childrenR childrenS target table before false after (unfit, kept) fit = absurd (unfit fit)
 
-module _ {count n : ℕ} {letters rests childrenR childrenS wholes target : List ℕ} {lent : Lent}
-    (fits : Fits count letters rests childrenR childrenS wholes target n lent) {table : List ℕ}
-    (filled : TableFilled count letters rests childrenR childrenS wholes n (lent .first) table)
-    (r : Bool) {rows : List ℕ} (fills : FillsRows count n childrenR childrenS target table (lent .second) r rows) where
-  by-rows : RowsFilled count n childrenR childrenS target table (lent .second) rows
-  by-rows =
-      rows-filled count n childrenR childrenS target table (lent .second) r rows fills
-      (filled-fits target (lent .second) (fits .table) filled (fits .room .few) (fits .room .short) (fits .room .rows))
+-- the tables are written, and the witness is not
+abbrev tabled : List ℕ → List ℕ → Lent → Lent
+tabled table rows lent = record { first = table; second = rows; witness = lent .witness }
 
-  pub tabulated : Tabulated count n letters rests childrenR childrenS wholes target table rows
-  tabulated =
-      record {
-        shape = fits .table .shape;
-        linked = fits .table .linked;
-        few = fits .room .few;
-        bound = fits .table .bound;
-        numbers = fits .room .numbers;
-        full = filled .full;
-        table-room = omega (arith, filled .long, fits .table .room);
-        rows-right = by-rows .right;
-        rows-room = omega (arith, by-rows .long, fits .room .rows);
-      }
+module _ {count n : ℕ} {letters rests childrenR childrenS wholes target : List ℕ} {lent : Lent} where
+  module _ (fits : Fits count letters rests childrenR childrenS wholes target n lent) {table : List ℕ}
+      (filled : TableFilled count letters rests childrenR childrenS wholes n (lent .first) table)
+      (r : Bool) {rows : List ℕ} (fills : FillsRows count n childrenR childrenS target table (lent .second) r rows) where
+    by-rows : RowsFilled count n childrenR childrenS target table (lent .second) rows
+    by-rows =
+        rows-filled count n childrenR childrenS target table (lent .second) r rows fills
+        (filled-fits target (lent .second) (fits .table) filled (fits .room .few) (fits .room .short) (omega (arith, fits .room .second)))
 
-  pub right : (found : Found) (witness : List ℕ)
-      → ((gens words : List Word) → Query gens words count n letters rests childrenR childrenS wholes target table
-      → Answers gens target n (lent .witness) found witness)
-      → Right count letters rests childrenR childrenS wholes target n found lent (record { first = table; second = rows; witness = witness })
-  right found witness answers =
-      record {
-        fits = fits;
-        answers = λ gens words posed.
-            answers gens words (record { posed = posed; exact = filled .exact gens words (posed .normal) (posed .tree) (posed .size) });
-        first = filled .kept;
-        second = by-rows .kept;
-      }
+    pub tabulated : Tabulated count letters rests childrenR childrenS wholes target n (tabled table rows lent)
+    tabulated =
+        record {
+          some = fits .table .shape .some;
+          room = record {
+            few = fits .room .few;
+            short = fits .room .short;
+            numbers = fits .room .numbers;
+            witness = fits .room .witness;
+            first = omega (arith, filled .long, fits .room .first);
+            second = omega (arith, by-rows .long, fits .room .second);
+          };
+          bound = fits .table .bound;
+          exact = λ gens words posed. filled .exact gens words (posed .normal) (posed .tree) (posed .size);
+          rows = by-rows .right;
+        }
 
-pub searches : (count : ℕ) (letters rests childrenR childrenS wholes target : List ℕ) (n : ℕ) (found : Found) (before after : Lent) → Answered found
-    → Right count letters rests childrenR childrenS wholes target n found before after
-    → Searches count letters rests childrenR childrenS wholes target n found before after
-searches count letters rests childrenR childrenS wholes target n (Series k) before after answered right = right
-searches count letters rests childrenR childrenS wholes target n None before after answered right = right
-searches count letters rests childrenR childrenS wholes target n Unfit before after answered right = absurd answered
+    pub searched : {found : Found} {after : Lent} → Answered count letters rests childrenR childrenS wholes target n found (tabled table rows lent) after
+        → Searches count letters rests childrenR childrenS wholes target n found lent after
+    searched answered =
+        record {
+          answers = λ fits gens words posed. answered .answers gens words posed;
+          first =
+              answered .first
+              ∙ drop-later (count * count) (used count (length target)) table (lent .first) (omega arith) (filled .kept);
+          second =
+              answered .second
+              ∙ drop-later (suc (length target) * count) (used count (length target)) rows (lent .second) (omega arith) (by-rows .kept);
+          unfit = λ unfit. absurd (unfit fits);
+          unwritten = answered .unwritten;
+        }
+
+pub unsearched : {count n : ℕ} {letters rests childrenR childrenS wholes target : List ℕ} {lent : Lent}
+    → (Fits count letters rests childrenR childrenS wholes target n lent → ⊥)
+    → Searches count letters rests childrenR childrenS wholes target n Unfit lent lent
+unsearched unfit =
+    record {
+      answers = λ fits. absurd (unfit fits);
+      first = refl;
+      second = refl;
+      unfit = λ _. (refl, refl);
+      unwritten = λ _. refl;
+    }

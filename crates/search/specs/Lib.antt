@@ -1,5 +1,2 @@
 pub mod Search
-pub mod Tight
-pub mod Walk
-pub mod Descent
-pub mod Witness
+pub mod Answering

@@ -1,4 +1,4 @@
-// Whether what is not the table's affair fits: the rows of the target, and the witness.
+// Whether what is not the table's affair fits: the rows of the target, the choices, and the witness.
 use words::Factors;
 ghost use Rattle.refusals.specs.Telling.{Tells};
 ghost use Rattle.search.specs.Search.{Room};
@@ -11,10 +11,11 @@ pub(crate) fn has_room(
     count: usize,
     generators: usize,
     n: Factors,
-    rows: usize,
+    first: usize,
+    second: usize,
     witness: usize,
 ) -> bool
-    ensures { λ r. ⌜ Tells r (Room count (n .0) letters generators rows witness) ⌝ }
+    ensures { λ r. ⌜ Tells r (Room count (n .0) letters generators first second witness) ⌝ }
 {
     if limits::STATES_ROOM < count {
         return false;
@@ -28,7 +29,11 @@ pub(crate) fn has_room(
     if witness < n.0 as usize {
         return false;
     }
-    if rows < (letters + 1) * count {
+    let used = (count + letters + 1) * count;
+    if first < used {
+        return false;
+    }
+    if second < used {
         return false;
     }
     true

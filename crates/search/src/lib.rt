@@ -1,30 +1,36 @@
-// The search for a least series: for the tree of a reduced list and a reduced target the table of pairs and the target's rows are filled, and what stands
-// at the end of the last row decides.
-mod descent;
-mod entries;
+// The search for the first of the least series: for the tree of a reduced list and a reduced target the table of pairs and the target's rows are filled,
+// what stands at the end of the last row decides, and the witness is written where there is one.
+mod carrying;
 mod fitting;
-mod stack;
-mod tight;
-mod witness;
 
-use crate::entries::cell;
+use crate::carrying::carry;
 use crate::fitting::has_room;
-use crate::witness::write_witness;
+use trees::entries::entry;
+use witness::Written;
 use words::Factors;
-ghost use mathlib.Core.List.{List};
-ghost use Prim.Native.Nat.{_≤_};
-ghost use lib.ListN.{length};
-ghost use Rattle.words.specs.Word.{Word};
-ghost use Rattle.search.specs.Search.{Query, Tabulated, Answered, Answers, Searches};
+ghost use mathlib.Core.Path.{_≡_};
+ghost use Rattle.search.specs.Search.{Searches};
+ghost use Rattle.search.specs.Answering.{ofWritten, Tabulated, Answered};
 
-// A least series with its count, none within the bound, or inputs that do not fit.
+// The first of the least series with its count, none within the bound, or inputs that do not fit.
 pub enum Found {
     Series(Factors),
     None,
     Unfit,
 }
 
-// What stands at the end of the last row decides: the count of a least series, or n + 1.
+// What the witness comes to.
+fn of_written(written: Written) -> Found
+    ensures { λ r. ⌜ r ≡ ofWritten written ⌝ }
+{
+    match written {
+        Written::Series(count) => Found::Series(count),
+        Written::Unfit => Found::Unfit,
+    }
+}
+
+// What stands at the end of the last row decides: the count of a least series, or n + 1. Where it is a count the rows are carried behind the table, and the
+// choices are made where the rows were.
 fn answer(
     target: &[u8],
     count: usize,
@@ -34,22 +40,22 @@ fn answer(
     children_s: &[u16],
     wholes: &[u16],
     n: Factors,
-    table: &[u16],
-    rows: &[u16],
+    first: &mut [u16],
+    second: &mut [u16],
     witness: &mut [u8],
 ) -> Found
-    requires { ⌜ Tabulated count (n .0) (now letters) (now rests) (now «children_r») (now «children_s») (now wholes) (now target) (now table) (now rows) ⌝ }
-    requires { ⌜ n .0 ≤ length (now witness) ⌝ }
-    ensures { λ r. ⌜ ((gens words : List Word)
-        → Query gens words count (n .0) (now (letters .entry)) (now (rests .entry)) (now («children_r» .entry)) (now («children_s» .entry)) (now (wholes .entry))
-        (now (target .entry)) (now (table .entry))
-        → Answers gens (now (target .entry)) (n .0) (now (witness .entry)) r (now (witness .exit))) ⌝ }
-    ensures { λ r. ⌜ Answered r ⌝ }
+    requires { ⌜ Tabulated count (now letters) (now rests) (now «children_r») (now «children_s») (now wholes) (now target) (n .0)
+        (record { first = now first; second = now second; witness = now witness }) ⌝ }
+    ensures { λ r. ⌜ Answered count (now (letters .entry)) (now (rests .entry)) (now («children_r» .entry)) (now («children_s» .entry)) (now (wholes .entry))
+        (now (target .entry)) (n .0) r
+        (record { first = now (first .entry); second = now (second .entry); witness = now (witness .entry) })
+        (record { first = now (first .exit); second = now (second .exit); witness = now (witness .exit) }) ⌝ }
 {
-    if n.0 as usize + 1 <= cell(rows, count, target.len(), 0) {
+    if n.0 as usize + 1 <= entry(second, target.len() * count) {
         return Found::None;
     }
-    Found::Series(write_witness(
+    carry(&second[..(target.len() + 1) * count], first, count * count);
+    of_written(witness::first_series(
         target,
         count,
         letters,
@@ -58,15 +64,15 @@ fn answer(
         children_s,
         wholes,
         n,
-        table,
-        rows,
+        first,
+        second,
         witness,
     ))
 }
 
-// Looks for a least series that makes the target, among those of at most n factors, by the tree of `count` nodes in the five slices. The table of pairs
-// is filled in the front of `first` and the target's rows in the front of `second`; the series' factors go to the front of `witness`. Where the inputs
-// do not fit nothing changes.
+// Looks for the first of the least series that make the target, among those of at most n factors, by the tree of `count` nodes in the five slices. The
+// counts are filled in the front of `first` and the choices are made in the front of `second`; the series' factors go to the front of `witness`. Where the
+// inputs do not fit nothing changes.
 pub fn least(
     target: &[u8],
     count: usize,
@@ -90,6 +96,7 @@ pub fn least(
         count,
         wholes.len(),
         n,
+        first.len(),
         second.len(),
         witness.len(),
     ) {

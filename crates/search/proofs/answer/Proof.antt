@@ -1,14 +1,25 @@
--- What stands at the end of the last row decides. Assumes nothing.
-use mathlib.Core.Path.{refl}
-use Rattle.search.proofs.LastRow.{decided-none, decided-member}
-use borrow.Author.Needs.{needs}
+-- What stands at the end of the last row decides; the rows are carried behind the pairs, and what is written is the answer. Assumes nothing.
+use mathlib.Core.Path.{sym}
+use Prim.Native.Nat.{suc, _+_, _*_, _≤_}
 use native.Mathlib.Omega.{arith}
+use lib.ListN.{length}
+use lib.Seq.{length-take-le}
+use Rattle.search.specs.Search.{used}
+use borrow.Author.Needs.{needs}
+use Rattle.search.proofs.Laid.{laid-carried, carried-kept}
+use Rattle.search.proofs.Deciding.{none-answered, written-answered}
 use Rattle.search.proofs.answer.Statement.{statement}
 use Rattle.search.proofs.answer.Tie as tie
 
--- the first state, from the one in which the last row's entry is read
-abbrev begun : tie.After-cell → tie.Start
-begun c = c .before .before .before .before .before .before .before .before .before .before .before
+-- Earlier states, each from a later one: the last row's entry is read, the rows are carried, the witness is written.
+abbrev begun : tie.After-entry → tie.Start
+begun c = c .before .before .before .before .before .before .before .before .before .before .before .before
+
+abbrev read : tie.After-carry → tie.After-entry
+read c = c .before .before .before .before
+
+abbrev carried : tie.After-first-series → tie.After-carry
+carried c = c .before .before .before .before .before .before
 
 cast-if1 : tie.Need-cast-if1
 cast-if1 c = search needs
@@ -16,35 +27,92 @@ cast-if1 c = search needs
 add-if1 : tie.Need-add-if1
 add-if1 c = search needs
 
-cell-requires : tie.Need-cell-requires
-cell-requires c κs = search needs
+mul-entry : tie.Need-mul-entry
+mul-entry c = search needs
 
-returns : tie.Need-returns
-returns c =
-    let read = c .before in
-    let tabulated = begun read .pre .0 in
-    ((λ gens words query. (decided-none query (tabulated .rows-right) (omega (arith, read .cell .ensures .0)), refl)), tt)
-
-write-witness-requires : tie.Need-write-witness-requires
-write-witness-requires c κs =
-    let read = c .before .before in
-    let p = begun read .pre in
-    (p .0, (p .1, omega (arith, read .cell .ensures .0)))
+entry-requires : tie.Need-entry-requires
+entry-requires c κs = search needs
 
 same-length : tie.Need-same-length
 same-length c = search needs
 
+returns : tie.Need-returns
+returns c = none-answered (begun (c .before) .pre) (omega (arith, c .before .entry .ensures .0))
+
+add-carry : tie.Need-add-carry
+add-carry c = search needs
+
+mul-carry : tie.Need-mul-carry
+mul-carry c = search needs
+
+slice-reshare-prefix-carry : tie.Need-slice-reshare-prefix-carry
+slice-reshare-prefix-carry c = search needs
+
+slice-aggregate-carry : tie.Need-slice-aggregate-carry
+slice-aggregate-carry c = sym (length-take-le _ _ (omega arith))
+
+mul-carry-2 : tie.Need-mul-carry-2
+mul-carry-2 c = search needs
+
+carry-requires : tie.Need-carry-requires
+carry-requires c κs =
+    let a = begun (c .before .before .before) .args in
+    let room = begun (c .before .before .before) .pre .room in
+    let there : (length (a .target .now) + 1) * a .count ≤ length (a .second .now) = omega (arith, room .second) in
+    omega (arith, room .first, length-take-le ((length (a .target .now) + 1) * a .count) (a .second .now) there)
+
+first-series-requires : tie.Need-first-series-requires
+first-series-requires c κs = search needs
+
+of-written-requires : tie.Need-of-written-requires
+of-written-requires c κs = search needs
+
+same-length-2 : tie.Need-same-length-2
+same-length-2 c = search needs
+
+same-length-3 : tie.Need-same-length-3
+same-length-3 c = search needs
+
+same-length-4 : tie.Need-same-length-4
+same-length-4 c = search needs
+
 returns-2 : tie.Need-returns-2
 returns-2 c =
-    let read = c .before .before .before .before .before in
-    let tabulated = begun read .pre .0 in (
-      (λ gens words query.
-          let s = c .before .before .write-witness .ensures gens words query in
-          (decided-member query (tabulated .rows-right) (omega (arith, read .cell .ensures .0)) s, s .rest)),
-      tt,
-    )
+    let written = c .before .before .before .before .before in
+    let rows = carried written in
+    let tabulated = begun (read rows) .pre in
+    let a = begun (read rows) .args in
+    let t = length (a .target .now) in
+    let room = tabulated .room in
+    let enough : suc t * a .count ≤ (t + 1) * a .count = omega arith in
+    let there : (t + 1) * a .count ≤ length (a .second .now) = omega (arith, room .second) in
+    let behind : a .count * a .count + (t + 1) * a .count ≤ length (a .first .now) = omega (arith, room .first) in
+    rw (c .of-written .ensures)
+    (written-answered tabulated _ (laid-carried (a .count) t (a .first .now) (a .second .now) ((t + 1) * a .count) enough there behind (rows .carry .ensures))
+    (written .first-series .result)
+    (omega (arith, read rows .entry .ensures .0))
+    (carried-kept (a .count) t (a .first .now) (a .second .now) ((t + 1) * a .count) enough there behind (rows .carry .ensures) (used (a .count) t) (omega arith))
+    (written .first-series .ensures))
 
 pub answer-spec : {M : Type 1} → statement M
 answer-spec =
     tie.close
-    (tie.spec cast-if1 add-if1 cell-requires returns write-witness-requires same-length returns-2)
+    (tie.spec
+    cast-if1
+    add-if1
+    mul-entry
+    entry-requires
+    same-length
+    returns
+    add-carry
+    mul-carry
+    slice-reshare-prefix-carry
+    slice-aggregate-carry
+    mul-carry-2
+    carry-requires
+    first-series-requires
+    of-written-requires
+    same-length-2
+    same-length-3
+    same-length-4
+    returns-2)

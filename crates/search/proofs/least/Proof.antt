@@ -1,9 +1,8 @@
 -- A table that was filled fits the rows, so both are filled, and the last row decides. Assumes nothing.
-use mathlib.Core.Path.{refl}
 use Rattle.refusals.proofs.Telling.{told, told-not}
 use Rattle.tables.specs.Filling.{Filled}
 use Rattle.search.specs.Search.{Fits}
-use Rattle.search.proofs.Tabulating.{tabulated, right, searches}
+use Rattle.search.proofs.Tabulating.{tabulated, searched, unsearched}
 use borrow.Author.Needs.{needs}
 use Rattle.search.proofs.least.Statement.{statement}
 use Rattle.search.proofs.least.Tie as tie
@@ -52,7 +51,7 @@ fill-requires-2 c κs = search needs
 answer-requires : tie.Need-answer-requires
 answer-requires c κs =
     let filled = c .before .before .before .before .before in
-    (tabulated (fits-at filled) (table-at filled) (filled .fill2 .result) (filled .fill2 .ensures), fits-at filled .room .witness)
+    tabulated (fits-at filled) (table-at filled) (filled .fill2 .result) (filled .fill2 .ensures)
 
 same-length : tie.Need-same-length
 same-length c = search needs
@@ -65,10 +64,9 @@ same-length-3 c = search needs
 
 returns : tie.Need-returns
 returns c =
-    let filled = c .before .before .before .before .before .before .before .before in
-    let answer = c .before .before .answer in
-    searches _ _ _ _ _ _ _ _ (answer .result) _ _ (answer .ensures .1)
-    (right (fits-at filled) (table-at filled) (filled .fill2 .result) (filled .fill2 .ensures) (answer .result) _ (answer .ensures .0))
+    let answered = c .before .before .before .before .before .before in
+    let filled = answered .before .before .before .before .before .before in
+    searched (fits-at filled) (table-at filled) (filled .fill2 .result) (filled .fill2 .ensures) (answered .answer .ensures)
 
 same-length-4 : tie.Need-same-length-4
 same-length-4 c = search needs
@@ -76,10 +74,10 @@ same-length-4 c = search needs
 returns-2 : tie.Need-returns-2
 returns-2 c =
     let unfit = rw (c .if2 .left) at (c .before .before .before .fill .ensures) in
-    (λ fits. unfit .0 (fits .table), rw (unfit .1) refl)
+    rw (unfit .1) (unsearched (λ fits. unfit .0 (fits .table)))
 
 returns-3 : tie.Need-returns-3
-returns-3 c = (λ fits. told-not (c .before .has-room .result) (c .if1 .left) (c .before .has-room .ensures) (fits .room), refl)
+returns-3 c = unsearched (λ fits. told-not (c .before .has-room .result) (c .if1 .left) (c .before .has-room .ensures) (fits .room))
 
 pub least-spec : {M : Type 1} → statement M
 least-spec =

@@ -22,21 +22,27 @@ cast-if4 c = search needs
 returns-4 : tie.Need-returns-4
 returns-4 c = λ room. omega arith
 
-add-if5 : tie.Need-add-if5
-add-if5 c = search needs
+add-used : tie.Need-add-used
+add-used c = search needs
 
-mul-if5 : tie.Need-mul-if5
-mul-if5 c =
+add-used-2 : tie.Need-add-used-2
+add-used-2 c = search needs
+
+mul-used : tie.Need-mul-used
+mul-used c =
     let a = c .before .before .before .before .before .args in
-    let letters : a .letters + 1 ≤ mostLetters + 1 = omega arith in
+    let rows : a .count + a .letters + 1 ≤ mostStates + mostLetters + 1 = omega arith in
     let nodes : a .count ≤ mostStates = omega arith in
-    omega (arith, mul-le-mul letters nodes)
+    omega (arith, mul-le-mul rows nodes)
 
 returns-5 : tie.Need-returns-5
 returns-5 c = λ room. omega arith
 
 returns-6 : tie.Need-returns-6
-returns-6 c = record { few = omega arith; short = omega arith; numbers = omega arith; witness = omega arith; rows = omega arith }
+returns-6 c = λ room. omega arith
+
+returns-7 : tie.Need-returns-7
+returns-7 c = record { few = omega arith; short = omega arith; numbers = omega arith; witness = omega arith; first = omega arith; second = omega arith }
 
 pub has-room-spec : {M : Type 1} → statement M
 has-room-spec =
@@ -47,7 +53,9 @@ has-room-spec =
     returns-3
     cast-if4
     returns-4
-    add-if5
-    mul-if5
+    add-used
+    add-used-2
+    mul-used
     returns-5
-    returns-6)
+    returns-6
+    returns-7)
