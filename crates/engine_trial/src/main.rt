@@ -128,6 +128,21 @@ fn bounds() {
     small(b"SR", &ends, b"SRSRSRSR", 1000);
 }
 
+// Several least series: the first is written. Equal generators; an empty one before them; S and SS, RS and R, and R twice, by which words are made in
+// several ways.
+fn firsts() {
+    let equal = [1u16, 2, 3];
+    small(b"RRR", &equal, b"R", 1000);
+    let empty_before_equal = [0u16, 1, 2];
+    small(b"SS", &empty_before_equal, b"SS", 1000);
+    let many = [1u16, 3, 5, 6];
+    small(b"SSSRSR", &many, b"RSS", 1000);
+    small(b"SSSRSR", &many, b"SRSSR", 1000);
+    small(b"SSSRSR", &many, b"RSR", 1000);
+    let turned = [1u16, 2, 4, 6];
+    small(b"RRSSSS", &turned, b"RSSRS", 1000);
+}
+
 // As many generators as there may be, of which the last is R and the others are empty, and one more.
 fn many_generators() {
     let mut ends = [0u16; GENERATORS];
@@ -419,6 +434,7 @@ fn main() {
     worked_values();
     empty_words();
     bounds();
+    firsts();
     many_generators();
     many_letters();
     wrong_ends();

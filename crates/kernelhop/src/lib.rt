@@ -29,9 +29,9 @@ pub struct Outcome {
 // Which release this library is, as one number (`release` of specs/). It has its one home here, in the promise and in the code: whoever else needs it asks.
 #[no_mangle]
 pub extern "C" fn kernelhop_version() -> u32
-    ensures { λ r. ⌜ r ≡ release 1 0 0 ⌝ }
+    ensures { λ r. ⌜ r ≡ release 1 1 0 ⌝ }
 {
-    10_000
+    10_100
 }
 
 // The same as words::reduce.
