@@ -1,10 +1,11 @@
-"""A model of document 01, "Bounded products in the modular group", written from its sentences alone and sharing nothing with the engine.
+"""A model of document 01, "Bounded products in the modular group", and of 02's change requests so far (M-100), written from their sentences alone and
+sharing nothing with the engine.
 
 It is slow and plain on purpose. A word is reduced by erasing, a matrix has unlimited integers, the word of a matrix is read off the
 Stern-Brocot tree, and a verdict comes from a walk of the group, product by product. Words are bytes, a matrix (a b; c d) is (a, b, c, d).
 
     normal_form, inverse, matrix, powers    the elements: words, matrices, and the word of a matrix
-    least_series                            the verdict's mathematics: a walk, breadth first
+    first_series                            the verdict's mathematics: a walk, level by level, that keeps the first series of each element
     ask, ask_each                           the questions at the door; Refused is the first no
     reduced, inverted, matrix_of_word, word_of_matrix, verdict, list_verdict
                                             the calls, with their questions in rising order
@@ -100,40 +101,34 @@ class TooLarge(Exception):
     """The walk would visit more elements than it may."""
 
 
-def least_series(generators, target, n, group=BY_RULES, cap=200_000):
-    """Every series of the least number of factors, at most n, that multiplies to the target; nothing if there is none.
+def first_series(generators, target, n, group=BY_RULES, cap=200_000):
+    """Of the series of the least number of factors, at most n, that multiply to the target the first when generator numbers are compared from left to
+    right; None if there is none.
 
-    Level k holds the elements that k factors make and no fewer, each with the ways to it: the element before and the last factor.
+    Level k holds the elements that k factors make and no fewer, each with its first series, in the order of these. A first series without its last factor is
+    the first of its own product: an earlier one of as many factors would make an earlier one of the whole. So the elements of a level are met, from those of
+    the level before in their order and from the factors in theirs, in the order of their first series, and each for the first time by its own.
     """
     element, times = group
-    goal = element(target)
+    one, goal = element(b""), element(target)
     factors = [element(generator) for generator in generators]
-    levels = [{element(b""): []}]
-    seen = set(levels[0])
-    while goal not in seen and len(levels) <= n and levels[-1]:
-        level = {}
-        for before in levels[-1]:
+    if goal == one:
+        return []
+    seen, level = {one}, [(one, [])]
+    for _ in range(n):
+        longer = []
+        for before, series in level:
             for number, factor in enumerate(factors):
                 after = times(before, factor)
+                if after == goal:
+                    return [*series, number]
                 if after not in seen:
-                    level.setdefault(after, []).append((before, number))
-            if len(seen) + len(level) > cap:
-                raise TooLarge(f"more than {cap} elements in {len(levels)} factors")
-        seen.update(level)
-        levels.append(level)
-    if goal in seen:
-        yield from series_to(goal, levels)
-
-
-def series_to(goal, levels):
-    """The series along all ways back from the goal, in the last level, to the empty product."""
-    open_ends = [(goal, [])]
-    while open_ends:
-        element, behind = open_ends.pop()
-        if len(behind) == len(levels) - 1:
-            yield behind
-        else:
-            open_ends += [(before, [number, *behind]) for before, number in levels[-1 - len(behind)][element]]
+                    seen.add(after)
+                    longer.append((after, [*series, number]))
+            if len(seen) > cap:
+                raise TooLarge(f"more than {cap} elements")
+        level = longer
+    return None
 
 
 # ---- the questions at the door
@@ -214,7 +209,7 @@ def side(generators, target):
 
 
 def verdict(generators, target, n, tables, room, cap=200_000):
-    """The least series, as an iterator that is empty for none. The target is letters or a matrix; `tables` are the tables' two lengths."""
+    """The first of the least series, None for none. The target is letters or a matrix; `tables` are the tables' two lengths."""
     letters = b"".join(generators)
     is_matrix = isinstance(target, tuple)
     if is_matrix:
@@ -229,7 +224,7 @@ def verdict(generators, target, n, tables, room, cap=200_000):
     ask(13, n <= 1000)
     ask(14, room >= n)
     ask(15, min(tables) >= side(generators, word) ** 2)
-    return least_series(generators, word, n, cap=cap)
+    return first_series(generators, word, n, cap=cap)
 
 
 def list_verdict(letters, ends, target, n, tables, room, cap=200_000):
@@ -282,19 +277,12 @@ def answer(card):
     return n, verdict(generators, target, n, tables=(16384, 16384), room=1000)
 
 
-class Undecided(Exception):
-    """There are several least series, and which of them is printed is left free."""
-
-
 def line(card):
-    """What the program prints, without byte 10, where document 01 decides it."""
+    """What the program prints, without byte 10."""
     try:
-        n, found = answer(card)
+        n, series = answer(card)
     except Refused as no:
         return f"refused {no.number} {no.place}"
-    least = list(itertools.islice(found, 2))
-    if not least:
+    if series is None:
         return f"none {n}"
-    if len(least) > 1:
-        raise Undecided(least)
-    return " ".join(["member", str(len(least[0])), *map(str, least[0])])
+    return " ".join(["member", *map(str, [len(series), *series])])

@@ -1,5 +1,6 @@
 #!/usr/bin/env python3
-"""Tests of trials/model.py: document 01's worked values P1 to P12 and edges, the laws that its ways of computing rest on, and each question."""
+"""Tests of trials/model.py: document 01's worked values P1 to P12 and edges, the laws that its ways of computing rest on, the first of the least series,
+and each question."""
 
 import itertools
 import os
@@ -25,8 +26,19 @@ def power_of_t(k):
 
 
 def judged(generators, target, n):
-    """All least series, with tables and a witness that are large enough."""
-    return list(model.verdict(generators, target, n, tables=(231361, 231361), room=1000))
+    """The verdict, with tables and a witness that are large enough."""
+    return model.verdict(generators, target, n, tables=(231361, 231361), room=1000)
+
+
+def all_least(generators, target, n):
+    """All series of the least number of factors that multiply to the target, from all series in rising length, those of one length in their order."""
+    form = model.normal_form(target)
+    for count in range(n + 1):
+        all_series = itertools.product(range(len(generators)), repeat=count)
+        reaching = [list(s) for s in all_series if model.normal_form(b"".join(generators[i] for i in s)) == form]
+        if reaching:
+            return reaching
+    return []
 
 
 class Asking(unittest.TestCase):
@@ -48,13 +60,13 @@ class WorkedValues(unittest.TestCase):
         self.assertEqual(model.word_of_matrix(U, 80), b"SSR")
 
     def test_p8_to_p12(self):
-        self.assertEqual(judged([], b"", 0), [[]])
-        self.assertEqual(judged([], b"R", 1000), [])
-        self.assertEqual(judged([b"RS", b"S"], b"R", 3), [[0, 1, 1]])
-        self.assertEqual(judged([b"RS", b"S"], b"R", 2), [])
-        self.assertEqual(judged([b"RSRS", b"S", b"SRSS"], b"R", 3), [[0, 1, 2]])
-        self.assertEqual(judged([b"RSRS", b"S", b"SRSS"], b"R", 2), [])
-        self.assertEqual(judged([b"SSS"], b"", 5), [[]])
+        self.assertEqual(judged([], b"", 0), [])
+        self.assertIsNone(judged([], b"R", 1000))
+        self.assertEqual(judged([b"RS", b"S"], b"R", 3), [0, 1, 1])
+        self.assertIsNone(judged([b"RS", b"S"], b"R", 2))
+        self.assertEqual(judged([b"RSRS", b"S", b"SRSS"], b"R", 3), [0, 1, 2])
+        self.assertIsNone(judged([b"RSRS", b"S", b"SRSS"], b"R", 2))
+        self.assertEqual(judged([b"SSS"], b"", 5), [])
 
     def test_worked_card(self):
         self.assertEqual(model.line(WORKED), "member 3 0 0 0")
@@ -69,7 +81,7 @@ class Edges(Asking):
         for k, letters in ((40, 80), (-26, 78)):
             self.assertEqual(model.word_of_matrix((1, k, 0, 1), 80), power_of_t(k))
             self.assertEqual(len(power_of_t(k)), letters)
-            self.assertEqual(judged([power_of_t(k // abs(k))], power_of_t(k), 1000), [[0] * abs(k)])
+            self.assertEqual(judged([power_of_t(k // abs(k))], power_of_t(k), 1000), [0] * abs(k))
         for k, letters in ((41, 82), (-27, 81)):
             self.assertEqual(sum(len(word) * times for word, times in model.powers((1, k, 0, 1))), letters)
             self.assert_refused(12, 0, model.word_of_matrix, (1, k, 0, 1), 80)
@@ -77,7 +89,7 @@ class Edges(Asking):
 
     def test_tables_for_15(self):
         self.assertEqual(model.side([b"SR"], b"SRSRSR"), 15)
-        self.assertEqual(list(model.verdict([b"SR"], b"SRSRSR", 3, (225, 225), 3)), [[0, 0, 0]])
+        self.assertEqual(model.verdict([b"SR"], b"SRSRSR", 3, (225, 225), 3), [0, 0, 0])
         self.assert_refused(15, 0, model.verdict, [b"SR"], b"SRSRSR", 3, (224, 225), 3)
         self.assert_refused(15, 0, model.verdict, [b"SR"], b"SRSRSR", 3, (225, 224), 3)
 
@@ -114,29 +126,55 @@ class Laws(unittest.TestCase):
             for sign in (1, -1):
                 self.assertEqual(model.word_of_matrix(tuple(sign * entry for entry in entries), 80), model.normal_form(word))
 
-    def test_walks_by_rules_and_by_matrices_find_the_same_series(self):
+    def test_a_walk_that_is_too_large(self):
+        with self.assertRaises(model.TooLarge):
+            model.first_series([b"SR", b"SSR"], b"R", 1000, cap=1000)
+
+
+class First(unittest.TestCase):
+    """Of several least series the first when generator numbers are compared from left to right."""
+
+    def assert_first(self, generators, target, n, series):
+        """By the walk, by all series of the least count, and by the statement."""
+        self.assertEqual(model.first_series(generators, target, n), series)
+        self.assertEqual(all_least(generators, target, n)[0], series)
+
+    def assert_firsts(self, generators, targets, n):
+        """By the walk and by all series, for each target. The answer is how many targets had more than one least series."""
+        several = 0
+        for target in targets:
+            least = all_least(generators, target, n)
+            for group in (model.BY_RULES, model.BY_MATRICES):
+                self.assertEqual(model.first_series(generators, target, n, group), min(least, default=None), (generators, target, n))
+            several += len(least) > 1
+        return several
+
+    def test_equal_generators(self):
+        self.assert_first([b"R", b"R"], b"R", 1, [0])
+        self.assert_first([b"S", b"RR", b"R", b"R"], b"R", 2, [2])
+        self.assert_first([b"SR", b"RSSSSR", b"SR", b"RSR"], b"SRSRRSR", 3, [0, 0, 1])
+        self.assertGreater(self.assert_firsts([b"RS", b"S", b"RS", b"SSSS"], words(4), 4), 10)
+
+    def test_an_empty_generator(self):
+        self.assert_first([b"", b"R"], b"R", 3, [1])
+        self.assert_first([b"", b"S", b"RR", b"S"], b"SS", 5, [1, 1])
+        self.assertGreater(self.assert_firsts([b"", b"S", b"RS", b"SR"], words(4), 4), 10)
+
+    def test_many_series_of_one_count(self):
+        self.assertEqual(all_least([b"S", b"SR", b"RS", b"R"], b"SRS", 3), [[0, 2], [1, 0]])
+        for generators in itertools.permutations([b"S", b"SS", b"RS", b"SR"]):
+            self.assertGreater(self.assert_firsts(generators, words(5), 4), 10)
+
+    def test_series_that_begin_alike(self):
+        self.assertEqual(all_least([b"SR", b"R", b"RS", b"S"], b"SRSRS", 3), [[0, 0, 3], [0, 3, 2], [3, 2, 2]])
+        self.assert_first([b"SR", b"R", b"RS", b"S"], b"SRSRS", 3, [0, 0, 3])
+        self.assert_first([b"RS", b"R", b"SR", b"S"], b"SRSRS", 3, [2, 2, 3])
+
+    def test_random_lists(self):
         chance = random.Random(1)
         choices = words(4)
         for _ in range(400):
-            generators = chance.choices(choices, k=chance.randrange(4))
-            target = chance.choice(choices)
-            n = chance.randrange(6)
-            found = sorted(model.least_series(generators, target, n))
-            self.assertEqual(found, sorted(model.least_series(generators, target, n, group=model.BY_MATRICES)))
-            self.assertEqual(found, self.by_trying_all(generators, target, n))
-
-    def by_trying_all(self, generators, target, n):
-        """The least series, from all series in rising length."""
-        for count in range(n + 1):
-            all_series = itertools.product(range(len(generators)), repeat=count)
-            reaching = [list(s) for s in all_series if model.normal_form(b"".join(generators[i] for i in s)) == model.normal_form(target)]
-            if reaching:
-                return reaching
-        return []
-
-    def test_a_walk_that_is_too_large(self):
-        with self.assertRaises(model.TooLarge):
-            list(model.least_series([b"SR", b"SSR"], b"R", 1000, cap=1000))
+            self.assert_firsts(chance.choices(choices, k=chance.randrange(4)), [chance.choice(choices)], chance.randrange(6))
 
 
 class Questions(Asking):
@@ -158,11 +196,11 @@ class Questions(Asking):
 
     def test_ends(self):
         def listed(letters, ends, target=b"R"):
-            return list(model.list_verdict(letters, ends, target, 3, (400, 400), 3))
+            return model.list_verdict(letters, ends, target, 3, (400, 400), 3)
 
-        self.assertEqual(listed(b"RSS", [2, 3]), [[0, 1, 1]])
-        self.assertEqual(listed(b"", [0]), [])
-        self.assertEqual(listed(b"", []), [])
+        self.assertEqual(listed(b"RSS", [2, 3]), [0, 1, 1])
+        self.assertIsNone(listed(b"", [0]))
+        self.assertIsNone(listed(b"", []))
         self.assert_refused(9, 1, listed, b"RSS", [2, 1, 3])
         self.assert_refused(9, 1, listed, b"RSS", [65535, 3, 2])
         self.assert_refused(9, 2, listed, b"RSS", [1, 2])
@@ -202,12 +240,9 @@ class Questions(Asking):
             (b"\0", "member 0"),
             (b"\x02\x01\0R", "none 1000"),
             (b"\x01\xe9\x03", "refused 13 0"),
+            (b"\x0a\x01\0R\x02\x01\0R\x01\0R", "member 1 0"),
         ):
             self.assertEqual(model.line(card), says)
-
-    def test_a_line_that_the_document_leaves_free(self):
-        with self.assertRaises(model.Undecided):
-            model.line(b"\x0a\x01\0R\x02\x01\0R\x01\0R")
 
 
 if __name__ == "__main__":

@@ -38,7 +38,7 @@ enum {
     KERNELHOP_STACK = 131072
 };
 
-/* The release that is linked: 10,000 times its major number, 100 times its minor one, and its patch number. So release 1.0.0 is 10000, and a later
+/* The release that is linked: 10,000 times its major number, 100 times its minor one, and its patch number. So release 1.1.0 is 10100, and a later
    release has a larger number. */
 uint32_t kernelhop_version(void);
 
@@ -67,7 +67,8 @@ struct kernelhop_outcome kernelhop_matrix_to_word(int64_t a, int64_t b, int64_t 
 /* Is the target a product of at most n generators? `bytes` has the generators' letters, one behind the other, and generator i, from 0, runs from
    ends[i - 1] (0 for the first) up to ends[i]. A generator may be empty.
    A member: value is k, the least number of factors, and the first k bytes of `witness` are generator numbers whose words, written one behind the
-   other, equal the target by the two rules. Which of several least series they are is left free. The rest of `witness` remains; for none all of it.
+   other, equal the target by the two rules: of the series of that count the first when their numbers are compared from left to right. The rest of
+   `witness` remains; for none all of it.
    With m the sum of the lengths of the generators' normal forms, t the length of the target's, and q = m + 2 * t + 1: after a member or none the
    first q * q entries of both tables are 0 and the others remain, whatever stood there. kernelhop_reduce tells the lengths; tables of KERNELHOP_SIDE *
    KERNELHOP_SIDE entries and KERNELHOP_BOUND bytes of witness are enough for every list, and need not be cleared between two calls.

@@ -41,7 +41,7 @@ static struct kernelhop_outcome word_to_matrix(const char *word, int64_t out[4])
 }
 
 static void version(void) {
-    CHECK(kernelhop_version() >= 10000);
+    CHECK(kernelhop_version() >= 10100);
 }
 
 static void words(void) {
@@ -160,6 +160,48 @@ static void verdicts(void) {
     free(second);
 }
 
+/* The words in a row, with their ends. */
+static size_t join(const char *const *words, size_t count, uint8_t *bytes, uint16_t *ends) {
+    size_t len = 0;
+    for (size_t i = 0; i < count; i++) {
+        memcpy(bytes + len, words[i], strlen(words[i]));
+        len += strlen(words[i]);
+        ends[i] = (uint16_t)len;
+    }
+    return len;
+}
+
+/* Is the target a member by just these factors, with n 1,000? */
+static int member_by(const char *const *words, size_t count, const char *target, const uint8_t *factors, size_t factors_len) {
+    static uint16_t first[KERNELHOP_SIDE * KERNELHOP_SIDE];
+    static uint16_t second[KERNELHOP_SIDE * KERNELHOP_SIDE];
+    static uint8_t witness[KERNELHOP_BOUND];
+    const size_t len = KERNELHOP_SIDE * KERNELHOP_SIDE;
+    uint8_t bytes[64];
+    uint16_t ends[8];
+    size_t bytes_len = join(words, count, bytes, ends);
+    memset(witness, 9, sizeof witness);
+    return is(kernelhop_judge(bytes, bytes_len, ends, count, (const uint8_t *)target, strlen(target), KERNELHOP_BOUND, first, len, second, len,
+                              witness, sizeof witness),
+              0, factors_len) &&
+           memcmp(witness, factors, factors_len) == 0 && witness[factors_len] == 9;
+}
+
+/* Of several least series the first when numbers are compared from left to right. */
+static void first_of_the_least(void) {
+    CHECK(member_by((const char *[]){"RS", "S"}, 2, "R", (const uint8_t[]){0, 1, 1}, 3));
+    CHECK(member_by((const char *[]){"RSRS", "S", "SRSS"}, 3, "R", (const uint8_t[]){0, 1, 2}, 3));
+    /* Equal generators, as written and by the rules. */
+    CHECK(member_by((const char *[]){"S", "R", "R"}, 3, "R", (const uint8_t[]){1}, 1));
+    CHECK(member_by((const char *[]){"RS", "SRRR", "SR"}, 3, "SRSR", (const uint8_t[]){1, 1}, 2));
+    /* Empty generators. */
+    CHECK(member_by((const char *[]){"", "S", "RR", "S", ""}, 5, "SS", (const uint8_t[]){1, 1}, 2));
+    /* 0 2 and 3 0; 0 2 2, 1 0 2 and 1 1 0; 0 0 1 0, 0 1 0 1 and 1 0 1 1. */
+    CHECK(member_by((const char *[]){"S", "SS", "RS", "SR"}, 4, "SRS", (const uint8_t[]){0, 2}, 2));
+    CHECK(member_by((const char *[]){"SS", "RS", "SR"}, 3, "RSR", (const uint8_t[]){0, 2, 2}, 3));
+    CHECK(member_by((const char *[]){"RS", "SR"}, 2, "RSR", (const uint8_t[]){0, 0, 1, 0}, 4));
+}
+
 /* Four generators and a target of 80 letters in normal form: no call needs larger tables. */
 static void largest_tables(void) {
     static uint16_t first[KERNELHOP_SIDE * KERNELHOP_SIDE];
@@ -196,6 +238,7 @@ static void *all(void *nothing) {
     normality();
     matrices();
     verdicts();
+    first_of_the_least();
     largest_tables();
     cards();
     return nothing;

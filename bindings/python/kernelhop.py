@@ -81,7 +81,8 @@ class Refused(ValueError):
 
 @dataclass(frozen=True)
 class Member:
-    """The target is the product of these generators, counted from 0, and of no fewer. Which of several least series they are is left free."""
+    """The target is the product of these generators, counted from 0, and of no fewer: of the series of that count the first when their numbers are compared
+    from left to right."""
 
     factors: tuple
 

@@ -92,6 +92,33 @@ class Verdicts(Case):
         self.assertEqual(verdict([], "R"), NoMember(1000))
         self.assertEqual(verdict(iter(["SR"]), "SR" * 40), Member((0,) * 40))
 
+    def test_the_first_of_the_least(self):
+        for generators, target, factors in [
+            # equal generators, as written and by the rules
+            (["S", "R", "R"], "R", (1,)),
+            (["RS", "SRRR", "SR"], "SRSR", (1, 1)),
+            # empty generators
+            (["", "S", "RR", "S", ""], "SS", (1, 1)),
+            # 0 2 and 3 0; 0 2 2, 1 0 2 and 1 1 0; 0 0 1 0, 0 1 0 1 and 1 0 1 1
+            (["S", "SS", "RS", "SR"], "SRS", (0, 2)),
+            (["SS", "RS", "SR"], "RSR", (0, 2, 2)),
+            (["RS", "SR"], "RSR", (0, 0, 1, 0)),
+            # powers of T = SR: 17 times 10 is 13 times 13 and 1 more, and they may stand in any order
+            (["SR" * 17, "RSS" * 13], "SR", (0,) * 10 + (1,) * 13),
+            (["RSS" * 13, "SR" * 17], "SR", (0,) * 13 + (1,) * 10),
+        ]:
+            self.assertEqual(verdict(generators, target), Member(factors))
+
+    def test_a_long_series(self):
+        """T to the 37th and the -26th, and U to the 24th and the -37th between powers of T: 972 factors make U."""
+        generators = ["SR" * 37, "RSS" * 26, "RSS" + "SSR" * 24 + "RSS", "RSS" + "RS" * 37]
+        found = verdict(generators, "SSR")
+        self.assertEqual(found.count, 972)
+        self.assertEqual(verdict(generators, "SSR", 971), NoMember(971))
+        # each run of powers of T has the 37th first
+        runs = re.findall("[01]+", "".join(map(str, found.factors)))
+        self.assertEqual(runs, ["".join(sorted(run)) for run in runs])
+
     def test_truth(self):
         self.assertTrue(verdict([], "", 0))
         self.assertFalse(verdict([], "R", 0))

@@ -59,7 +59,8 @@ extern "C" {
 /// A verdict whose factors stand in the lent witness.
 #[derive(Clone, Copy, Debug, PartialEq, Eq)]
 pub enum Judged {
-    /// A member: by the generators whose numbers are the first `count` bytes of the witness, and by no fewer.
+    /// A member: by the generators whose numbers are the first `count` bytes of the witness, and by no fewer; of the series of that count they are the first
+    /// when their numbers are compared from left to right.
     Member { count: usize },
     /// No product of at most n generators is the target.
     None { n: u16 },

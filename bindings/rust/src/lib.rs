@@ -31,7 +31,8 @@ use room::Room;
 /// Whether the target is a product of at most n generators.
 #[derive(Clone, Debug, PartialEq, Eq)]
 pub enum Verdict {
-    /// It is: by these generators, counted from 0, and by no fewer. Which of several least series they are is left free.
+    /// It is: by these generators, counted from 0, and by no fewer; of the series of that count they are the first when their numbers are compared from left
+    /// to right.
     Member { factors: Vec<usize> },
     /// It is not.
     None { n: u16 },
@@ -60,7 +61,7 @@ fn text(letters: &[u8]) -> String {
     letters.iter().map(|&letter| char::from(letter)).collect()
 }
 
-/// The release of the library that answers, such as `1.0.0`.
+/// The release of the library that answers, such as `1.1.0`.
 pub fn version() -> String {
     let release = lent::version();
     format!(

@@ -94,6 +94,48 @@ fn verdicts() {
     assert_eq!(verdict(&[b"SR"], b"SRSRSR", 3).unwrap(), member(&[0, 0, 0]));
 }
 
+/// Of several least series the first when numbers are compared from left to right.
+#[test]
+fn the_first_of_the_least() {
+    let first = |list: &[&str], target| verdict(list, target, 1000).unwrap();
+    // Equal generators, as written and by the rules.
+    assert_eq!(first(&["S", "R", "R"], "R"), member(&[1]));
+    assert_eq!(first(&["RS", "SRRR", "SR"], "SRSR"), member(&[1, 1]));
+    // Empty generators.
+    assert_eq!(first(&["", "S", "RR", "S", ""], "SS"), member(&[1, 1]));
+    // 0 2 and 3 0; 0 2 2, 1 0 2 and 1 1 0; 0 0 1 0, 0 1 0 1 and 1 0 1 1.
+    assert_eq!(first(&["S", "SS", "RS", "SR"], "SRS"), member(&[0, 2]));
+    assert_eq!(first(&["SS", "RS", "SR"], "RSR"), member(&[0, 2, 2]));
+    assert_eq!(first(&["RS", "SR"], "RSR"), member(&[0, 0, 1, 0]));
+    // Powers of T = SR: 17 times 10 is 13 times 13 and 1 more, and they may stand in any order.
+    let powers = ["SR".repeat(17), "RSS".repeat(13)];
+    let factors = [vec![0; 10], vec![1; 13]].concat();
+    assert_eq!(verdict(&powers, "SR", 1000).unwrap(), member(&factors));
+}
+
+/// T to the 37th and the -26th, and U to the 24th and the -37th between powers of T: 972 factors make U. They are 33 runs of T's powers, in each the 37th
+/// first, with one of the others between two runs.
+#[test]
+fn a_long_series() {
+    let list = [
+        "SR".repeat(37),
+        "RSS".repeat(26),
+        format!("RSS{}RSS", "SSR".repeat(24)),
+        format!("RSS{}", "RS".repeat(37)),
+    ];
+    let Verdict::Member { factors } = verdict(&list, "SSR", 1000).unwrap() else {
+        panic!("none");
+    };
+    assert_eq!(factors.len(), 972);
+    let runs: Vec<_> = factors.split(|&factor| factor > 1).collect();
+    assert!(runs.iter().all(|run| !run.is_empty() && run.is_sorted()));
+    assert_eq!(runs.len(), 33);
+    assert_eq!(
+        verdict(&list, "SSR", 971).unwrap(),
+        Verdict::None { n: 971 }
+    );
+}
+
 /// The largest list, target and bound that the questions let pass.
 #[test]
 fn the_largest_tables() {

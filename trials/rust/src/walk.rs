@@ -1,24 +1,29 @@
-//! A walk of the group: breadth first, product by product.
+//! A walk of the group: level by level, product by product.
 
 use crate::element::Element;
 use std::collections::HashMap;
 
-/// Every element that at most n factors make, with the least number of them.
-pub fn least_counts(factors: &[Element], n: usize) -> HashMap<Element, usize> {
-    let mut counts = HashMap::from([(Element::ONE, 0)]);
+/// Every element that at most n factors make, with its least series; of several the first when the factors' numbers are compared from left to right.
+///
+/// A first series without its last factor is the first of its own product: an earlier one of as many factors would make an earlier one of the whole. So a level
+/// that goes through the one before in the order of its first series, and through the factors in theirs, meets each element first by its first series, and the
+/// elements in the order of these.
+pub fn first_series(factors: &[Element], n: usize) -> HashMap<Element, Vec<u8>> {
+    let mut found = HashMap::from([(Element::ONE, Vec::new())]);
     let mut level = vec![Element::ONE];
-    for count in 1..=n {
+    for _ in 0..n {
         let mut next = Vec::new();
         for before in level {
-            for &factor in factors {
+            let series = found[&before].clone();
+            for (number, &factor) in (0u8..).zip(factors) {
                 let after = before.times(factor);
-                counts.entry(after).or_insert_with(|| {
+                found.entry(after).or_insert_with(|| {
                     next.push(after);
-                    count
+                    [series.as_slice(), &[number]].concat()
                 });
             }
         }
         level = next;
     }
-    counts
+    found
 }

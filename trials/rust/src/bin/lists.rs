@@ -1,9 +1,9 @@
 //! Small lists, exhaustively: every list of up to 3 generators of up to 3 letters, every target of up to 6 letters and every bound up to 5. The library's
-//! verdict, its count, its factors and what it does to the lent slices are held to a walk of the group by matrices. Prints what was tried, and `0 differ`;
-//! where something differs it prints the first of them and exits with 1.
+//! verdict, its factors and what it does to the lent slices are held to a walk of the group by matrices, which keeps the first of each element's least series:
+//! the factors have to be just these. Prints what was tried, and `0 differ`; where something differs it prints the first of them and exits with 1.
 
 use kernelhop::lent::{judge, Judged};
-use kernelhop_trials::{element::Element, erasing::normal_form, walk::least_counts, words::up_to};
+use kernelhop_trials::{element::Element, erasing::normal_form, walk::first_series, words::up_to};
 
 const GENERATORS: usize = 3;
 const LETTERS: usize = 3;
@@ -60,43 +60,38 @@ impl<'a> List<'a> {
         self.generators.iter().map(|word| word.element).collect()
     }
 
-    /// Whether the library's answer is right, where `least` is the least number of factors up to the bound.
-    fn is_right(&self, target: &Word, n: u16, least: Option<usize>) -> bool {
+    /// Whether the library's answer is right, where `first` is the first of the least series up to the bound.
+    fn is_right(&self, target: &Word, n: u16, first: Option<&[u8]>) -> bool {
         let m: usize = self.generators.iter().map(|word| word.length).sum();
         let q = m + 2 * target.length + 1;
-        let mut first = vec![ENTRY; q * q + MORE];
-        let mut second = vec![ENTRY; q * q + MORE];
+        let mut tables = [(); 2].map(|()| vec![ENTRY; q * q + MORE]);
+        let [one, other] = &mut tables;
         let mut witness = vec![BYTE; usize::from(n) + MORE];
         let answer = judge(
             &self.bytes,
             &self.ends,
             &target.letters,
             n,
-            &mut first,
-            &mut second,
+            one,
+            other,
             &mut witness,
         );
-        let expected = match least {
-            Some(count) => Judged::Member { count },
+        let expected = match first {
+            Some(series) => Judged::Member {
+                count: series.len(),
+            },
             None => Judged::None { n },
         };
-        let (factors, behind) = witness.split_at(least.unwrap_or(0));
+        let series = first.unwrap_or(&[]);
+        let (factors, behind) = witness.split_at(series.len());
         let zeroed = |table: &[u16]| {
             let (zeros, rest) = table.split_at(q * q);
             zeros.iter().all(|&entry| entry == 0) && rest.iter().all(|&entry| entry == ENTRY)
         };
         answer == Ok(expected)
-            && (least.is_none() || self.product(factors) == Some(target.element))
+            && factors == series
             && behind.iter().all(|&byte| byte == BYTE)
-            && zeroed(&first)
-            && zeroed(&second)
-    }
-
-    fn product(&self, factors: &[u8]) -> Option<Element> {
-        factors.iter().try_fold(Element::ONE, |product, &j| {
-            let generator = self.generators.get(usize::from(j))?;
-            Some(product.times(generator.element))
-        })
+            && tables.iter().all(|table| zeroed(table))
     }
 }
 
@@ -112,19 +107,19 @@ struct Tried {
 impl Tried {
     fn list(&mut self, generators: &[&Word], targets: &[Word]) {
         let list = List::new(generators);
-        let counts = least_counts(&list.elements(), usize::from(BOUND));
+        let found = first_series(&list.elements(), usize::from(BOUND));
         for target in targets {
             for n in 0..=BOUND {
-                let least = counts.get(&target.element).copied();
-                let least = least.filter(|&count| count <= usize::from(n));
-                match least {
-                    Some(count) => self.members[count] += 1,
+                let first = found.get(&target.element).map(Vec::as_slice);
+                let first = first.filter(|series| series.len() <= usize::from(n));
+                match first {
+                    Some(series) => self.members[series.len()] += 1,
                     None => self.none += 1,
                 }
-                if !list.is_right(target, n, least) {
+                if !list.is_right(target, n, first) {
                     self.differ += 1;
                     if self.differ <= 10 {
-                        report(&list, target, n, least);
+                        report(&list, target, n, first);
                     }
                 }
             }
@@ -145,10 +140,10 @@ impl Tried {
     }
 }
 
-fn report(list: &List, target: &Word, n: u16, least: Option<usize>) {
+fn report(list: &List, target: &Word, n: u16, first: Option<&[u8]>) {
     let text = |word: &[u8]| String::from_utf8_lossy(word).into_owned();
     println!(
-        "differs: letters {}, ends {:?}, target {}, n {n}; the walk has {least:?}",
+        "differs: letters {}, ends {:?}, target {}, n {n}; the walk has {first:?}",
         text(&list.bytes),
         list.ends,
         text(&target.letters)
