@@ -1,7 +1,7 @@
 //! Measures the proved verdict against the same method in plain Rust, in one process: both get the same calls in turn, and must give the same verdict and
-//! count.
+//! write the same factors.
 //!
-//!     kernelhop_benchmark agree             only holds the one to the other, on 20,000 small calls
+//!     kernelhop_benchmark agree             only holds the one to the other, on 20,000 small calls, and both to a walk of the group
 //!     kernelhop_benchmark ratios            the ratios on the largest calls, one on a line
 //!     kernelhop_benchmark PLOT FILE..       all tables in Markdown, and the plot: both of these and a walk of the group. Each file holds what `ratios` printed
 //!                                           where the functions were moved
@@ -10,7 +10,7 @@ mod plot;
 mod reference;
 
 use kernelhop::lent::{judge, Judged};
-use kernelhop_trials::{element::Element, erasing::normal_form, walk::least_counts};
+use kernelhop_trials::{element::Element, erasing::normal_form, walk::first_series};
 use reference::Verdict;
 
 fn proved(call: &Call, lent: &mut Lent) -> Verdict {
@@ -38,11 +38,28 @@ fn plain(call: &Call, lent: &mut Lent) -> Verdict {
         call.n,
         &mut lent.first,
         &mut lent.second,
-        &mut lent.witness,
+        Some(&mut lent.witness),
     )
 }
 
+/// Plain Rust without the witness: list, tree, tables and zeroing, and what stands at the end of the last row.
+fn counted(call: &Call, lent: &mut Lent) -> Verdict {
+    reference::judge(
+        &call.bytes,
+        &call.ends,
+        &call.target,
+        call.n,
+        &mut lent.first,
+        &mut lent.second,
+        None,
+    )
+}
+
+/// One of the three above.
+type Run = fn(&Call, &mut Lent) -> Verdict;
+
 /// A list, a target and a bound.
+#[derive(Clone)]
 struct Call {
     bytes: Vec<u8>,
     ends: Vec<u16>,
@@ -166,28 +183,52 @@ impl Call {
         product == normal_form(&self.target)
     }
 
-    fn elements(&self) -> Vec<Element> {
-        (0..self.ends.len())
+    /// The first of the least series that a walk of the group finds.
+    fn walked(&self) -> Option<Vec<u8>> {
+        let elements: Vec<_> = (0..self.ends.len())
             .map(|j| Element::of_word(self.generator(j)))
-            .collect()
+            .collect();
+        first_series(&elements, usize::from(self.n)).remove(&Element::of_word(&self.target))
     }
 }
 
-/// Both on one call: the same verdict and count, witnesses that reach the target, and the same in the lent slices but for the choice of the factors.
-fn compare(call: &Call, lent: &Lent) -> Verdict {
-    let (mut ours, mut theirs) = (lent.clone(), lent.clone());
+/// A verdict, and a member's factors.
+struct Answer {
+    verdict: Verdict,
+    factors: Vec<u8>,
+}
+
+impl Answer {
+    /// Asserts that a walk of the group found the same.
+    fn must_be(&self, series: Option<Vec<u8>>) {
+        match series {
+            Some(series) => {
+                assert_eq!(self.verdict, Verdict::Member(series.len() as u16));
+                assert_eq!(self.factors, series);
+            }
+            None => assert_eq!(self.verdict, Verdict::None),
+        }
+    }
+}
+
+/// All on one call. The two that write a witness give the same verdict and leave the same in the lent slices, and their factors reach the target.
+fn compare(call: &Call, lent: &Lent) -> Answer {
+    let [mut ours, mut theirs, mut without] = [(); 3].map(|()| lent.clone());
     let verdict = proved(call, &mut ours);
     assert_eq!(verdict, plain(call, &mut theirs));
-    if let Verdict::Member(count) = verdict {
-        let count = count as usize;
-        assert!(
-            call.reached_by(&ours.witness[..count]) && call.reached_by(&theirs.witness[..count])
-        );
-        ours.witness[..count].fill(0);
-        theirs.witness[..count].fill(0);
+    assert!(ours == theirs, "the lent slices differ");
+    let factors = match verdict {
+        Verdict::Member(count) => ours.witness[..usize::from(count)].to_vec(),
+        Verdict::None | Verdict::Refused(..) => Vec::new(),
+    };
+    if let Verdict::Member(_) = verdict {
+        assert!(call.reached_by(&factors));
     }
-    assert!(ours == theirs);
-    verdict
+    // Without a witness question 14 is not put.
+    if !matches!(verdict, Verdict::Refused(14, _)) {
+        assert_eq!(verdict, counted(call, &mut without));
+    }
+    Answer { verdict, factors }
 }
 
 fn compare_small(calls: usize) {
@@ -195,13 +236,20 @@ fn compare_small(calls: usize) {
     let (mut members, mut none, mut refused) = (0, 0, 0);
     for _ in 0..calls {
         let (call, lent) = small_call(&mut random);
-        match compare(&call, &lent) {
+        let answer = compare(&call, &lent);
+        match answer.verdict {
             Verdict::Member(_) => members += 1,
             Verdict::None => none += 1,
-            Verdict::Refused(..) => refused += 1,
+            Verdict::Refused(..) => {
+                refused += 1;
+                continue;
+            }
         }
+        answer.must_be(call.walked());
     }
-    println!("Both agree on {calls} small random calls: {members} members, {none} none, {refused} refused.\n");
+    println!(
+        "Both agree on {calls} small random calls, and a walk of the group finds the same factors: {members} members, {none} none, {refused} refused.\n"
+    );
 }
 
 #[repr(C)]
@@ -234,46 +282,62 @@ fn timed<T>(run: impl FnOnce() -> T) -> f64 {
     now() - start
 }
 
-/// Medians over rounds: the milliseconds of a call of both, and the ratio of their sums, which a machine that is slow for a while leaves as it is.
-struct Measured {
-    proved: f64,
-    plain: f64,
-    ratio: f64,
-}
-
 fn median(numbers: impl Iterator<Item = f64>) -> f64 {
     let mut numbers: Vec<_> = numbers.collect();
     numbers.sort_by(f64::total_cmp);
     numbers[numbers.len() / 2]
 }
 
+/// Medians over rounds: the milliseconds of a call of both, and the ratio of their sums, which a machine that is slow for a while leaves as it is.
+struct Measured {
+    proved: f64,
+    other: f64,
+    ratio: f64,
+}
+
 /// The milliseconds of both on one call. The one that comes second finds the call in the cache.
-fn measure_call(call: &Call, lent: &mut Lent, proved_first: bool) -> (f64, f64) {
+fn measure_call(call: &Call, other: Run, lent: &mut Lent, proved_first: bool) -> (f64, f64) {
     let call = std::hint::black_box(call);
     if proved_first {
         let ours = timed(|| proved(call, lent));
-        (ours, timed(|| plain(call, lent)))
+        (ours, timed(|| other(call, lent)))
     } else {
-        let theirs = timed(|| plain(call, lent));
+        let theirs = timed(|| other(call, lent));
         (timed(|| proved(call, lent)), theirs)
     }
 }
 
-/// Rounds over all calls, each made once by both, for two seconds, but at least 5. One call made again and again takes less time than a job sees, which
-/// asks about each list once.
-fn measure(calls: &[Call], lent: &mut Lent) -> Measured {
+/// How many rounds to measure at least, and for how many milliseconds.
+struct Length {
+    rounds: usize,
+    milliseconds: f64,
+}
+
+const LONG: Length = Length {
+    rounds: 5,
+    milliseconds: 2000.0,
+};
+
+const SHORT: Length = Length {
+    rounds: 3,
+    milliseconds: 1000.0,
+};
+
+/// Rounds over all calls, each made once by the proved verdict and once by the other. One call made again and again takes less time than a job sees, which
+/// asks about each list once. So the two of plain Rust are not measured in the same rounds: they are the same code.
+fn measure(calls: &[Call], other: Run, length: Length, lent: &mut Lent) -> Measured {
     let mut sums = Vec::new();
     let start = now();
-    while sums.len() < 5 || now() - start < 2000.0 {
+    while sums.len() < length.rounds || now() - start < length.milliseconds {
         let proved_first = sums.len() % 2 == 0;
         let times = calls
             .iter()
-            .map(|call| measure_call(call, lent, proved_first));
+            .map(|call| measure_call(call, other, lent, proved_first));
         sums.push(times.fold((0.0, 0.0), |sum, time| (sum.0 + time.0, sum.1 + time.1)));
     }
     Measured {
         proved: median(sums.iter().map(|&(ours, _)| ours)) / calls.len() as f64,
-        plain: median(sums.iter().map(|&(_, theirs)| theirs)) / calls.len() as f64,
+        other: median(sums.iter().map(|&(_, theirs)| theirs)) / calls.len() as f64,
         ratio: median(sums.iter().map(|&(ours, theirs)| ours / theirs)),
     }
 }
@@ -284,10 +348,61 @@ const SHAPES: [(usize, usize); 4] = [(64, 5), (32, 10), (16, 20), (4, 80)];
 /// How many lists of a shape are measured.
 const LISTS: usize = 60;
 
+/// Lists of powers of T = SR and U = SSR, and targets of each, which all are products. There are many series of equal count, and they are long.
+const POWERS: [(&str, &[&str]); 3] = [
+    (
+        "T^37, T^-26, U^26, U^-35",
+        &["T", "U", "T U", "T^-3 U^2", "T^5 U^-7"],
+    ),
+    ("T^37, T^-26, T^-1 U^24 T^-1, T^-1 U^-37", &["U"]),
+    (
+        "T^13, T^-11, U^9, U^-13, T^7, U^-7",
+        &["T", "U", "T U", "T^-3 U^2", "T^5 U^-7", "T^8 U^8"],
+    ),
+];
+
+/// The normal form of a product of powers.
+fn power_word(text: &str) -> Vec<u8> {
+    let letters = |power: &str| {
+        let (base, exponent) = power.split_once('^').unwrap_or((power, "1"));
+        let exponent: i32 = exponent.parse().expect("an exponent");
+        let base = match (base, exponent < 0) {
+            ("T", false) => "SR",
+            ("T", true) => "RSS",
+            ("U", false) => "SSR",
+            ("U", true) => "RS",
+            _ => panic!("{base} is neither T nor U"),
+        };
+        base.repeat(exponent.unsigned_abs() as usize)
+    };
+    normal_form(text.split(' ').map(letters).collect::<String>().as_bytes())
+}
+
+/// Calls that are measured together.
+struct Kind {
+    name: String,
+    calls: Vec<Call>,
+}
+
+fn kinds() -> Vec<Kind> {
+    let random = SHAPES.map(|(generators, letters)| Kind {
+        name: format!("{generators} of {letters}"),
+        calls: large_calls(LISTS, generators, letters, 1000),
+    });
+    let powers = POWERS.map(|(generators, targets)| {
+        let list: Vec<_> = generators.split(", ").map(power_word).collect();
+        let call = |target: &&str| call_of(&list, power_word(target), 1000);
+        Kind {
+            name: generators.to_string(),
+            calls: targets.iter().map(call).collect(),
+        }
+    });
+    random.into_iter().chain(powers).collect()
+}
+
 fn print_ratios(lent: &mut Lent) {
-    for (generators, letters) in SHAPES {
-        let calls = large_calls(LISTS, generators, letters, 1000);
-        println!("{:.4}", measure(&calls, lent).ratio);
+    for kind in kinds() {
+        println!("{:.4}", measure(&kind.calls, plain, LONG, lent).ratio);
     }
 }
 
@@ -299,32 +414,77 @@ fn read_ratios(file: &str) -> Vec<f64> {
         .collect()
 }
 
-/// Both on each of the calls. How many have a member.
-fn compare_all(calls: &[Call], lent: &Lent) -> usize {
-    let member = |call: &&Call| matches!(compare(call, lent), Verdict::Member(_));
-    calls.iter().filter(member).count()
+fn compare_all(calls: &[Call], lent: &Lent) -> Vec<Answer> {
+    calls.iter().map(|call| compare(call, lent)).collect()
 }
 
-/// `moved` are the ratios where the functions are moved, of each program in turn.
-fn against_plain_rust(lent: &mut Lent, moved: &[Vec<f64>]) {
-    println!("| generators | lists | members | proved, ms | plain Rust, ms | ratios | mean |");
-    println!("|---|---|---|---|---|---|---|");
-    for (i, (generators, letters)) in SHAPES.into_iter().enumerate() {
-        let calls = large_calls(LISTS, generators, letters, 1000);
-        let members = compare_all(&calls, lent);
+/// The number of factors, where there is a series.
+fn counts(answers: &[Answer]) -> Vec<usize> {
+    let count = |answer: &Answer| match answer.verdict {
+        Verdict::Member(count) => Some(usize::from(count)),
+        Verdict::None | Verdict::Refused(..) => None,
+    };
+    answers.iter().filter_map(count).collect()
+}
+
+/// Some of the calls, each with the largest bound that its target is not within.
+fn none_calls(calls: &[Call], answers: &[Answer]) -> Vec<Call> {
+    let none_call = |(call, answer): (&Call, &Answer)| match answer.verdict {
+        Verdict::Member(count) => Call {
+            n: count - 1,
+            ..call.clone()
+        },
+        Verdict::None | Verdict::Refused(..) => call.clone(),
+    };
+    calls.iter().zip(answers).take(FEW).map(none_call).collect()
+}
+
+/// Prints the table, and answers the ratio of each kind. `moved` are the ratios where the functions are moved, of each program in turn.
+fn against_plain_rust(kinds: &[Kind], lent: &mut Lent, moved: &[Vec<f64>]) -> Vec<f64> {
+    println!("| generators | calls | members | most factors | proved, ms | plain Rust, ms | ratios | mean |");
+    println!("|---|---|---|---|---|---|---|---|");
+    let measured = kinds.iter().enumerate().map(|(i, Kind { name, calls })| {
+        let counts = counts(&compare_all(calls, lent));
         let Measured {
             proved,
-            plain,
+            other,
             ratio,
-        } = measure(&calls, lent);
+        } = measure(calls, plain, LONG, lent);
         let ratios: Vec<f64> = std::iter::once(ratio)
             .chain(moved.iter().map(|ratios| ratios[i]))
             .collect();
         let mean = ratios.iter().sum::<f64>() / ratios.len() as f64;
         let ratios: Vec<_> = ratios.iter().map(|ratio| format!("{ratio:.2}")).collect();
         println!(
-            "| {generators} of {letters} | {LISTS} | {members} | {proved:.3} | {plain:.3} | {} | {mean:.2} |",
+            "| {name} | {} | {} | {} | {proved:.3} | {other:.3} | {} | {mean:.2} |",
+            calls.len(),
+            counts.len(),
+            counts.iter().max().unwrap_or(&0),
             ratios.join(" ")
+        );
+        ratio
+    });
+    let ratios = measured.collect();
+    println!();
+    ratios
+}
+
+/// Times over those of plain Rust that only counts. `ratios` are those of the proved verdict to plain Rust.
+fn over_counting(kinds: &[Kind], lent: &mut Lent, ratios: &[f64]) {
+    println!("Counting is plain Rust without the witness. For `none` up to {FEW} of the calls have n one below the least count, where there is a series.\n");
+    println!("| generators | counting, ms | proved | plain Rust | proved, none |");
+    println!("|---|---|---|---|---|");
+    for (Kind { name, calls }, ratio) in kinds.iter().zip(ratios) {
+        let none_calls = none_calls(calls, &compare_all(calls, lent));
+        assert!(counts(&compare_all(&none_calls, lent)).is_empty());
+        let none = measure(&none_calls, counted, SHORT, lent);
+        let measured = measure(calls, counted, SHORT, lent);
+        println!(
+            "| {name} | {:.3} | {:.2} | {:.2} | {:.2} |",
+            measured.other,
+            measured.ratio,
+            measured.ratio / ratio,
+            none.ratio
         );
     }
     println!();
@@ -348,7 +508,7 @@ fn growth(
         let times = values.map(|value| {
             let calls = calls(generators, letters, value);
             compare_all(&calls, lent);
-            measure(&calls, lent).proved
+            measure(&calls, plain, SHORT, lent).proved
         });
         println!(
             "| {generators} of {letters} | {:.3} | {:.3} | {:.3} |",
@@ -360,12 +520,6 @@ fn growth(
 
 /// The bound at which a walk of the group is measured: with each factor more it visits as many times more elements as the list has generators.
 const WALK: u16 = 5;
-
-/// Whether the target is among the elements that a walk visits.
-fn walk_finds(call: &Call) -> bool {
-    let visited = least_counts(&call.elements(), usize::from(call.n));
-    visited.contains_key(&Element::of_word(&call.target))
-}
 
 fn print_lines(lines: &[plot::Line]) {
     let heads: String = lines
@@ -397,11 +551,13 @@ fn over_m(lent: &mut Lent) -> Vec<plot::Line> {
     });
     for generators in (4..=32).step_by(4) {
         let calls = large_calls(FEW, generators, 10, WALK);
-        let Measured { proved, plain, .. } = measure(&calls, lent);
-        let mut found = 0;
-        let walk = timed(|| found = calls.iter().filter(|call| walk_finds(call)).count());
-        assert_eq!(found, compare_all(&calls, lent));
-        for (line, time) in lines.iter_mut().zip([proved, plain, walk / FEW as f64]) {
+        let Measured { proved, other, .. } = measure(&calls, plain, SHORT, lent);
+        let mut found = Vec::new();
+        let walk = timed(|| found = calls.iter().map(Call::walked).collect());
+        for (answer, series) in compare_all(&calls, lent).iter().zip(found) {
+            answer.must_be(series);
+        }
+        for (line, time) in lines.iter_mut().zip([proved, other, walk / FEW as f64]) {
             line.points.push((10.0 * generators as f64, time));
         }
     }
@@ -422,8 +578,11 @@ fn main() {
     }
     let moved: Vec<_> = files.iter().map(|file| read_ratios(file)).collect();
     compare_small(20_000);
-    println!("## m 320, t 80, n 1000\n");
-    against_plain_rust(&mut lent, &moved);
+    let kinds = kinds();
+    println!("## m 320, t 80; and powers of T = SR and U = SSR with products of them as targets: n 1000\n");
+    let ratios = against_plain_rust(&kinds, &mut lent, &moved);
+    println!("## What the choice of the first series costs: times over that of counting\n");
+    over_counting(&kinds, &mut lent, &ratios);
     println!("## Milliseconds of the proved verdict as m grows: t 80, n 1000\n");
     growth(
         "m",

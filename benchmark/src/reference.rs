@@ -1,7 +1,11 @@
 //! The bounded verdict in plain Rust, by the same method as the proved one: the questions, the reduced list, the tree of suffixes, the table of
-//! pairs filled by levels, the target's rows, the witness walked along tight rules, and the zeroing. What the proved one passes over is passed over
-//! here too: rows without an entry of the level, a level that no entry lies above, rules that cannot lower anything. It proves nothing; it is what
-//! the benchmark measures against.
+//! pairs filled by levels, the target's rows, the witness chosen among the entries that the target needs, and the zeroing. What the proved one passes
+//! over is passed over here too: rows without an entry of the level, a level that no entry lies above, rules that cannot lower anything, rows of choices
+//! where nothing is to be done. It proves nothing; it is what the benchmark measures against.
+
+mod witness;
+
+use witness::Counts;
 
 // Where a loop stands in the lines of the processor's cache moves its time by some percent. So the program is linked four times, with all functions from here on, the
 // proved ones too, moved by so many bytes.
@@ -190,6 +194,13 @@ fn lower(entry: &mut u16, value: u16) {
     }
 }
 
+/// Whether there is such an entry. No early end, so that the loop runs on many entries at once.
+fn has(entries: &[u16], such: impl Fn(u16) -> bool) -> bool {
+    entries
+        .iter()
+        .fold(false, |found, &entry| found | such(entry))
+}
+
 /// Two different rows of the table, the first to be changed.
 fn two_rows(table: &mut [u16], width: usize, x: usize, y: usize) -> (&mut [u16], &[u16]) {
     if x < y {
@@ -258,11 +269,9 @@ fn fill(tree: &Tree, n: u16, table: &mut [u16]) {
         lower(&mut table[whole as usize], 1);
     }
     let mut k = 1;
-    while k <= n && table.iter().any(|&entry| entry > k) {
+    while k <= n && has(table, |entry| entry > k) {
         for x in 0..width {
-            let row = &table[x * width..(x + 1) * width];
-            // No early end, so that the loop runs on many entries at once.
-            if !row.iter().fold(false, |found, &entry| found | (entry == k)) {
+            if !has(&table[x * width..(x + 1) * width], |entry| entry == k) {
                 continue;
             }
             for y in 0..width {
@@ -271,10 +280,9 @@ fn fill(tree: &Tree, n: u16, table: &mut [u16]) {
                 }
             }
         }
-        k = table.iter().fold(
-            n + 1,
-            |least, &entry| if entry > k { least.min(entry) } else { least },
-        );
+        // Every entry is treated alike, so that this loop too runs on many at once.
+        let above = |&entry: &u16| if entry > k { entry } else { n + 1 };
+        k = table.iter().map(above).fold(n + 1, u16::min);
     }
 }
 
@@ -304,131 +312,8 @@ fn path(target: &[u8], tree: &Tree, n: u16, table: &[u16], rows: &mut [u16]) {
     }
 }
 
-/// The pairs that are still to be spelled.
-struct Stack {
-    pairs: [(u16, u16); LARGEST_BOUND as usize],
-    height: usize,
-}
-
-impl Stack {
-    fn push(&mut self, x: usize, y: usize) {
-        self.pairs[self.height] = (x as u16, y as u16);
-        self.height += 1;
-    }
-
-    fn pop(&mut self) -> Option<(usize, usize)> {
-        if self.height == 0 {
-            return None;
-        }
-        self.height -= 1;
-        let (x, y) = self.pairs[self.height];
-        Some((x as usize, y as usize))
-    }
-}
-
-/// Goes back along the rows, and pushes the pairs by which they are joined, the first on top.
-fn descend(target: &[u8], tree: &Tree, table: &[u16], rows: &[u16], stack: &mut Stack) {
-    let width = tree.count;
-    let mut q = 0;
-    for (i, &letter) in target.iter().enumerate().rev() {
-        let entry = rows[(i + 1) * width + q];
-        let read = |v: usize| tree.child(letter, v).map(|c| (c, rows[i * width + c]));
-        q = match read(q) {
-            Some((child, read)) if read == entry => child,
-            _ => {
-                let (v, child) = (0..width)
-                    .find_map(|v| match read(v) {
-                        Some((child, read)) if read + table[v * width + q] == entry => {
-                            Some((v, child))
-                        }
-                        _ => None,
-                    })
-                    .expect("each entry is attained");
-                stack.push(v, q);
-                child
-            }
-        };
-    }
-    stack.push(0, q);
-}
-
-/// A rule with one premise that is tight at (x, y): its premise.
-fn one_premise(tree: &Tree, table: &[u16], x: usize, y: usize) -> Option<(usize, usize)> {
-    let width = tree.count;
-    let k = table[x * width + y];
-    let same = |a: usize, b: usize| (table[a * width + b] == k).then_some((a, b));
-    if x == 0 {
-        return None;
-    }
-    let letter = tree.letters[x];
-    let a = tree.rests[x] as usize;
-    if let Some(premise) = tree.rest(letter, y).and_then(|b| same(a, b)) {
-        return Some(premise);
-    }
-    if letter == R {
-        return tree.child(R, y).and_then(|b| same(a, b));
-    }
-    let b = tree.child(S, y)?;
-    tree.rest(S, a)
-        .and_then(|a| same(a, b))
-        .or_else(|| tree.child(S, b).and_then(|b| same(a, b)))
-}
-
-/// Rule E, where it is tight at (x, y).
-fn triple(tree: &Tree, table: &[u16], x: usize, y: usize) -> Option<[(usize, usize); 2]> {
-    let width = tree.count;
-    let k = table[x * width + y];
-    let a = tree.rest(S, x)?;
-    let b = tree.child(S, y)?;
-    (0..width).find_map(|v| {
-        let w = tree.rest(S, v)?;
-        (table[a * width + v] + table[w * width + b] == k).then_some([(a, v), (w, b)])
-    })
-}
-
-/// Rule F, which is tight where no other rule is.
-fn between(width: usize, table: &[u16], x: usize, y: usize) -> usize {
-    let k = table[x * width + y];
-    (0..width)
-        .find(|v| table[x * width + v] + table[v * width + y] == k)
-        .expect("some rule is tight")
-}
-
-/// Writes the factors of a least series, and answers how many they are.
-fn write_witness(
-    target: &[u8],
-    tree: &Tree,
-    table: &[u16],
-    rows: &[u16],
-    witness: &mut [u8],
-) -> u16 {
-    let width = tree.count;
-    let mut stack = Stack {
-        pairs: [(0, 0); LARGEST_BOUND as usize],
-        height: 0,
-    };
-    descend(target, tree, table, rows, &mut stack);
-    let mut written = 0;
-    while let Some((x, y)) = stack.pop() {
-        let whole = || tree.wholes().iter().position(|&whole| whole as usize == y);
-        if let Some((a, b)) = one_premise(tree, table, x, y) {
-            stack.push(a, b);
-        } else if let (0, 1, Some(j)) = (x, table[x * width + y], whole()) {
-            witness[written] = j as u8;
-            written += 1;
-        } else if let Some([(a, v), (w, b)]) = triple(tree, table, x, y) {
-            stack.push(w, b);
-            stack.push(a, v);
-        } else {
-            let v = between(width, table, x, y);
-            stack.push(v, y);
-            stack.push(x, v);
-        }
-    }
-    written as u16
-}
-
-/// The verdict on a reduced target that is not empty, by a reduced list.
+/// The verdict on a reduced target that is not empty, by a reduced list. The rows stand where the choices will; only where there is a series they are carried
+/// behind the pairs.
 fn search(
     list: &List,
     ends: &[u16],
@@ -436,19 +321,31 @@ fn search(
     n: u16,
     first: &mut [u16],
     second: &mut [u16],
-    witness: &mut [u8],
+    witness: Option<&mut [u8]>,
 ) -> Verdict {
     let tree = Tree::build(&list.letters[..list.len], ends);
-    let table = &mut first[..tree.count * tree.count];
+    let (pairs, behind) = first.split_at_mut(tree.count * tree.count);
     let rows = &mut second[..(form.len() + 1) * tree.count];
-    fill(&tree, n, table);
-    path(form, &tree, n, table, rows);
-    if rows[form.len() * tree.count] > n {
+    fill(&tree, n, pairs);
+    path(form, &tree, n, pairs, rows);
+    let least = rows[form.len() * tree.count];
+    if least > n {
         return Verdict::None;
     }
-    Verdict::Member(write_witness(form, &tree, table, rows, witness))
+    let Some(witness) = witness else {
+        return Verdict::Member(least);
+    };
+    behind[..rows.len()].copy_from_slice(rows);
+    let entries = pairs.len() + rows.len();
+    let counts = Counts {
+        target: form,
+        tree: &tree,
+        counts: &first[..entries],
+    };
+    Verdict::Member(witness::write(&counts, &mut second[..entries], witness))
 }
 
+/// Without a witness only the verdict and the count are found.
 pub fn judge(
     bytes: &[u8],
     ends: &[u16],
@@ -456,7 +353,7 @@ pub fn judge(
     n: u16,
     first: &mut [u16],
     second: &mut [u16],
-    witness: &mut [u8],
+    witness: Option<&mut [u8]>,
 ) -> Verdict {
     if let Err(refused) = of_list(bytes, ends, target) {
         return refused;
@@ -474,7 +371,10 @@ pub fn judge(
     if n > LARGEST_BOUND {
         return Verdict::Refused(13, 0);
     }
-    if witness.len() < n as usize {
+    if witness
+        .as_ref()
+        .is_some_and(|witness| witness.len() < n as usize)
+    {
         return Verdict::Refused(14, 0);
     }
     let q = list.len + 2 * form.len() + 1;
