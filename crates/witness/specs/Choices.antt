@@ -36,8 +36,7 @@ cells w = (w .count + suc (length (w .target))) * w .count
 abbrev pub Item : World → ℕ → ℕ → Type 0
 Item w x y = (1 ≤ x) × (1 ≤ weightIn w x y)
 
--- Some nodes, and no more than a list has; a target and a bound as questions 8 and 13 let pass; generators whose numbers fit in bytes; and a choice for
--- each item.
+-- Some nodes, and no more than a list has; a target that question 8 lets pass; generators whose numbers fit in bytes; and a choice for each item.
 pub record Small (w : World) (choices : List ℕ) : Type 0 where
   pub some : 1 ≤ w .count
   pub few : w .count ≤ mostStates
