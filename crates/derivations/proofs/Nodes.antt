@@ -68,7 +68,7 @@ module _ {gens words : List Word} {n : ℕ} {w : World} (query : Query gens word
 
   pub entries-exact : Exact gens n (entryAt words w)
   entries-exact =
-      table-exact gens words (w .count) n (w .letters) (w .rests) (w .childrenR) (w .childrenS) (w .wholes) (w .counts) (query .tree) (query .size)
+      table-exact gens words (w .count) n (w .letters) (w .rests) (w .childrenR) (w .childrenS) (w .wholes) (w .counts) (query .tree) (query .size) measure
       (query .exact)
 
   -- ---- states and weights
@@ -86,7 +86,7 @@ module _ {gens words : List Word} {n : ℕ} {w : World} (query : Query gens word
   node-once p q h k e = query .tree .once p q (node-inside p h) (node-inside q k) e
 
   pub entry-some : (u q : Word) → State gens u → State gens q → 1 ≤ entryAt words w u q
-  entry-some u q s t = exact-positive gens measure measure-append (measure-factor gens) n (entryAt words w) entries-exact u q s t
+  entry-some u q s t = exact-positive gens measure measure-append n (entryAt words w) entries-exact (measure-factor gens) u q s t
 
   pub pair-weight : (p y : ℕ) → p < w .count → y < w .count → weightIn w (suc p) y ≡ entryAt words w (wordAt words p) (wordAt words y)
   pair-weight p y h k =

@@ -19,7 +19,7 @@ use Rattle.words.specs.Bytes.{letter, word}
 use Rattle.refusals.specs.Telling.{pick}
 use Rattle.products.specs.Product.{measure}
 use Rattle.products.specs.State.{State}
-use Rattle.products.proofs.Exact.{measure-append, measure-factor}
+use Rattle.products.proofs.Exact.{measure-append, measure-factor, exact-closed}
 use Rattle.products.proofs.Tables.{weight-positive}
 use Rattle.products.proofs.Rows.{RowsClosed, RowsAttained}
 use Rattle.products.proofs.RowClasses.{LetterAt, reads-some, reads-series, row-reached}
@@ -66,7 +66,8 @@ module _ {gens words : List Word} {n : ℕ} {w : World} (query : Query gens word
       (w .target) (rowsIn w) (query .rows)
 
   pub rows-closed : RowsClosed gens n (entryAt words w) (word (w .target)) (rowIn words w)
-  rows-closed = rows-closed-of gens n (entryAt words w) (word (w .target)) (rowIn words w) (entries-exact query) _ rounds
+  rows-closed = rows-closed-of gens n (entryAt words w) (word (w .target)) (rowIn words w)
+      (exact-closed gens measure measure-append n (entryAt words w) (entries-exact query)) _ rounds
 
   pub rows-reached : RowsAttained gens n (entryAt words w) (word (w .target)) (rowIn words w)
   rows-reached = rows-attained-of gens n (entryAt words w) (word (w .target)) (rowIn words w) _ rounds
@@ -95,7 +96,7 @@ module _ {gens words : List Word} {n : ℕ} {w : World} (query : Query gens word
             row-reached gens measure measure-append n (entryAt words w) (word (w .target)) (rowIn words w) (entries-exact query) rows-reached
             i (omega (arith, same-length)) (wordAt words q) (node-state query q k) l in
             rw e at
-            (weight-positive gens measure measure-append (measure-factor gens) n (entryAt words w) r (reads-series gens (word (w .target)) d)
+            (weight-positive gens measure measure-append (measure-factor gens) r (reads-series gens (word (w .target)) d)
             (reads-some gens (word (w .target)) d))
         | no l ↦ omega arith
       ])

@@ -2,8 +2,8 @@
 -- closed and sound.
 --     exact-of-closed                a table that is closed and sound is exact
 --     exact-closed, exact-sound      an exact table is closed and sound
---     exact-positive                 no entry is 0
--- Assumes that a series weighs what its parts weigh together and a factor 1 or more, and that the generators are reduced where closed gives exact.
+--     exact-positive                 no entry is 0, where a factor weighs 1 or more
+-- Assumes that a series weighs what its parts weigh together, and that the generators are reduced where closed gives exact.
 use mathlib.Core.Path.{_≡_, refl, sym}
 use mathlib.Core.List.{List, [], _∷_, _++_, nil≢cons, append-ne-nil-of-right-ne-nil}
 use Prim.Native.Nat.{ℕ, _+_, _≤_}
@@ -37,7 +37,6 @@ Exact gens n T = ExactBy gens measure n T
 
 module _ (gens : List Word)
     (weight : List ℕ → ℕ) (weight-append : (a b : List ℕ) → weight (a ++ b) ≡ weight a + weight b)
-    (weight-factor : (j : ℕ) → Factor gens j → 1 ≤ weight (j ∷ []))
     (n : ℕ) (T : Word → Word → ℕ) where
   pub exact-of-closed : AllReduced gens → Closed gens weight n T → Sound gens weight n T
       → ((u v : Word) → State gens u → State gens v → T u v ≤ n + 1) → ExactBy gens weight n T
@@ -45,16 +44,16 @@ module _ (gens : List Word)
       record {
         bounded = bounded u v s t;
         led = sound .led u v s t;
-        least = table-least gens weight weight-append weight-factor n T all closed u v s t;
+        least = table-least gens weight weight-append n T all closed u v s t;
       }
 
   module _ (exact : ExactBy gens weight n T) where
     pub exact-sound : Sound gens weight n T
     exact-sound = record { led = λ u v s t. exact u v s t .led }
 
-    -- an entry up to n is the weight of a series, and so at least 1; any other is n + 1
-    pub exact-positive : (u v : Word) → State gens u → State gens v → 1 ≤ T u v
-    exact-positive u v s t =
+    -- an entry up to n is the weight of a series, and so at least 1 where a factor weighs that; any other is n + 1
+    pub exact-positive : ((j : ℕ) → Factor gens j → 1 ≤ weight (j ∷ [])) → (u v : Word) → State gens u → State gens v → 1 ≤ T u v
+    exact-positive weight-factor u v s t =
         elim (decLe (T u v) n) [
           | yes h ↦ sound-positive gens weight weight-append weight-factor n T exact-sound u v s t h
           | no h ↦ omega arith

@@ -64,7 +64,7 @@ module _ (gens : List Word)
       → ((r : List ℕ) → Leads gens u r q → Leads gens x r p) → T x p ≤ T u q
   no-more u q x p su sq sx sp on =
       elim (decLe (T u q) n) [
-        | yes h ↦ from-one gens weight weight-append weight-factor n T exact u q x p su sq sx sp on h
+        | yes h ↦ from-one gens weight weight-append n T exact u q x p su sq sx sp on h
         | no h ↦ omega (arith, exact x p sx sp .bounded)
       ]
 
@@ -112,7 +112,7 @@ module _ (gens : List Word)
         let at-j : State gens (generator gens j) = suffix j [] f refl in
         let sum = weight-append (j ∷ []) (k ∷ r) in
         let i = exact (generator gens j) q at-j state .least (k ∷ r) (λ e. nil≢cons (sym e)) (leads-behind-factor l) (omega arith) in
-        let closed = exact-closed gens weight weight-append weight-factor n T exact in
+        let closed = exact-closed gens weight weight-append n T exact in
         let a = closed .A j f (omega arith) in
         part f (omega (arith, closed .F [] (generator gens j) q nothing at-j state (omega arith)))
 
@@ -170,7 +170,7 @@ module _ (gens : List Word)
         where
           behind : (s : List ℕ) → Leads gens (generator gens j) s q → weight s ≡ weight r → NoLater r s
           behind [] l e =
-              let one = weight-positive gens weight weight-append weight-factor n T r (h .leads .series) (h .some) in
+              let one = weight-positive gens weight weight-append weight-factor r (h .leads .series) (h .some) in
               absurd (omega (arith, weight-append [] []))
           behind (i ∷ s) l e = h .first (i ∷ s) (λ e. nil≢cons (sym e)) l e
 
@@ -186,7 +186,7 @@ module _ (gens : List Word)
         let i = exact x p sx sp .least a ne l (omega arith) in
         let j = exact y o sy so .least b ne′ m (omega arith) in
         let on : (a b : List ℕ) → Leads gens x a p → Leads gens y b o → Leads gens u (a ++ b) q = λ a b l m. halves-leads gens h l m in
-        let k = from-two gens weight weight-append weight-factor n T exact x p y o u q sx sp sy so su sq on (omega arith) in
+        let k = from-two gens weight weight-append n T exact x p y o u q sx sp sy so su sq on (omega arith) in
         (omega arith, omega arith, omega arith)
 
     module _ (some : u ≢ []) (un : Unshifted gens u q) where

@@ -16,3 +16,4 @@ pub mod RowClasses
 pub mod RowFirsts
 pub mod Verdict
 pub mod Generators
+pub mod Unbounded

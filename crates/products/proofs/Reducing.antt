@@ -7,7 +7,7 @@ use Prim.Native.Nat.{ℕ}
 use lib.ListN.{getD, length-map, List·getD-map}
 use Rattle.words.specs.Word.{Word, Equal, none, back, then, nf}
 use Rattle.words.proofs.NormalForm.{equal-path, equal-append, equal-nf, nf-reduced}
-use Rattle.products.specs.Product.{generator, Series, letters, Reaches, Rival, NoneRight, MemberRight}
+use Rattle.products.specs.Product.{generator, Series, letters, Reaches, Rival, NoneRight, MemberRight, YesRight, NoRight}
 use Rattle.products.proofs.OneStep.{AllReduced}
 
 -- Verdicts on two lists and two targets are alike where the same series are products and the same series reach.
@@ -30,6 +30,12 @@ module _ (g h : List Word) (t u : Word) (series : (r : List ℕ) → Series g r 
         least = λ r k e. right .least r (rival-back k) (reaches r .1 e);
         first = λ r k e m b. right .first r (rival-back k) (reaches r .1 e) m b;
       }
+
+  yes-alike : YesRight g t → YesRight h u
+  yes-alike (r, s, c, e) = (r, series r .0 s, c, reaches r .0 e)
+
+  no-alike : NoRight g t → NoRight h u
+  no-alike right r s c e = right r (series r .1 s) c (reaches r .1 e)
 
 nf-nothing : nf [] ≡ []
 unfolding nf
@@ -79,4 +85,16 @@ module _ (gens : List Word) where
   member-reduced target n factors count = (
     member-alike (map nf gens) gens (nf target) target reduced-series (both-reach target) n factors count,
     member-alike gens (map nf gens) target (nf target) (λ r. Iff·symm (reduced-series r)) (λ r. Iff·symm (both-reach target r)) n factors count,
+  )
+
+  pub yes-reduced : (target : Word) → YesRight (map nf gens) (nf target) ↔ YesRight gens target
+  yes-reduced target = (
+    yes-alike (map nf gens) gens (nf target) target reduced-series (both-reach target),
+    yes-alike gens (map nf gens) target (nf target) (λ r. Iff·symm (reduced-series r)) (λ r. Iff·symm (both-reach target r)),
+  )
+
+  pub no-reduced : (target : Word) → NoRight (map nf gens) (nf target) ↔ NoRight gens target
+  no-reduced target = (
+    no-alike (map nf gens) gens (nf target) target reduced-series (both-reach target),
+    no-alike gens (map nf gens) target (nf target) (λ r. Iff·symm (reduced-series r)) (λ r. Iff·symm (both-reach target r)),
   )

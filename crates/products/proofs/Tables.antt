@@ -1,7 +1,7 @@
 -- A table on pairs of states that is closed under the rules holds at each pair no more than any series that leads there weighs, up to the bound.
 --     ends-least     of the series that end at a state: along the rules
 --     table-least    of all series that lead there: by where the first letter that is left comes from
--- Assumes that the generators are reduced, and that a series weighs what its parts weigh together.
+-- Assumes that the generators are reduced, and that a series weighs what its parts weigh together, be it nothing.
 use mathlib.Core.Path.{_≡_, refl}
 use mathlib.Core.Logic.{_≢_}
 use mathlib.Core.List.{List, [], _∷_, _++_}
@@ -30,61 +30,64 @@ module _ (gens : List Word) (weight : List ℕ → ℕ) (n : ℕ) (T : Word → 
   pub record Sound : Type 0 where
     pub led : (u v : Word) → State gens u → State gens v → T u v ≤ n → (r : List ℕ) × (r ≢ []) × Leads gens u r v × (weight r ≡ T u v)
 
+-- Where a factor weighs 1 or more, so does a series of one factor or more.
 module _ (gens : List Word)
     (weight : List ℕ → ℕ) (weight-append : (a b : List ℕ) → weight (a ++ b) ≡ weight a + weight b)
-    (weight-factor : (j : ℕ) → Factor gens j → 1 ≤ weight (j ∷ []))
-    (n : ℕ) (T : Word → Word → ℕ) where
+    (weight-factor : (j : ℕ) → Factor gens j → 1 ≤ weight (j ∷ [])) where
   pub weight-positive : (r : List ℕ) → Series gens r → r ≢ [] → 1 ≤ weight r
   weight-positive [] s h = absurd (h refl)
   weight-positive (j ∷ r) s h = let f = weight-factor j (s .0) in omega (arith, weight-append (j ∷ []) r)
 
   -- an entry up to n is at least 1
-  pub sound-positive : Sound gens weight n T → (u v : Word) → State gens u → State gens v → T u v ≤ n → 1 ≤ T u v
-  sound-positive sound u v s t h = let (r, ne, l, e) = sound .led u v s t h in rw e at (weight-positive r (l .series) ne)
+  pub sound-positive : (n : ℕ) (T : Word → Word → ℕ) → Sound gens weight n T
+      → (u v : Word) → State gens u → State gens v → T u v ≤ n → 1 ≤ T u v
+  sound-positive n T sound u v s t h = let (r, ne, l, e) = sound .led u v s t h in rw e at (weight-positive r (l .series) ne)
 
-  module _ (all : AllReduced gens) (closed : Closed gens weight n T) where
-    abbrev Least : Word → List ℕ → Word → Type 0
-    Least u r q = State gens u → weight r ≤ n → T u q ≤ weight r
+module _ (gens : List Word)
+    (weight : List ℕ → ℕ) (weight-append : (a b : List ℕ) → weight (a ++ b) ≡ weight a + weight b)
+    (n : ℕ) (T : Word → Word → ℕ) (all : AllReduced gens) (closed : Closed gens weight n T) where
+  abbrev Least : Word → List ℕ → Word → Type 0
+  Least u r q = State gens u → weight r ≤ n → T u q ≤ weight r
 
-    least-step : (u : Word) (r : List ℕ) (q : Word) → Step gens (Known gens all Least) u r q → Least u r q
-    least-step u r q (A j f) s h = closed .A j f h
-    least-step u r q (B {x} t k) s h = let i = k .1 (state-tail gens s) h in omega (arith, closed .B x q s t (omega arith))
-    least-step u r q (C {x} t k) s h = let i = k .1 (state-tail gens (state-tail gens s)) h in omega (arith, closed .C x q s t (omega arith))
-    least-step u r q (D {x} no-s t k) s h = let i = k .1 (state-tail gens s) h in omega (arith, closed .D x q no-s s t (omega arith))
-    least-step u r q (E {x} {w} {a} {b} no-s t t′ k l) s h =
-        let sum = weight-append a b in
-        let i = k .1 (state-tail gens s) (omega arith) in
-        let j = l .1 (state-tail gens t) (omega arith) in
-        omega (arith, closed .E x w q no-s s t t′ (omega arith))
-    least-step u r q (F {v} {a} {b} t t′ k l) s h =
-        let sum = weight-append a b in
-        let i = k .1 s (omega arith) in
-        let j = l .1 t (omega arith) in
-        omega (arith, closed .F u v q s t t′ (omega arith))
+  least-step : (u : Word) (r : List ℕ) (q : Word) → Step gens (Known gens all Least) u r q → Least u r q
+  least-step u r q (A j f) s h = closed .A j f h
+  least-step u r q (B {x} t k) s h = let i = k .1 (state-tail gens s) h in omega (arith, closed .B x q s t (omega arith))
+  least-step u r q (C {x} t k) s h = let i = k .1 (state-tail gens (state-tail gens s)) h in omega (arith, closed .C x q s t (omega arith))
+  least-step u r q (D {x} no-s t k) s h = let i = k .1 (state-tail gens s) h in omega (arith, closed .D x q no-s s t (omega arith))
+  least-step u r q (E {x} {w} {a} {b} no-s t t′ k l) s h =
+      let sum = weight-append a b in
+      let i = k .1 (state-tail gens s) (omega arith) in
+      let j = l .1 (state-tail gens t) (omega arith) in
+      omega (arith, closed .E x w q no-s s t t′ (omega arith))
+  least-step u r q (F {v} {a} {b} t t′ k l) s h =
+      let sum = weight-append a b in
+      let i = k .1 s (omega arith) in
+      let j = l .1 t (omega arith) in
+      omega (arith, closed .F u v q s t t′ (omega arith))
 
-    pub ends-least : {u q : Word} {r : List ℕ} → State gens u → Ends gens u r q → weight r ≤ n → T u q ≤ weight r
-    ends-least s e h = ends-induction gens all Least least-step (state-reduced gens all s) e s h
+  pub ends-least : {u q : Word} {r : List ℕ} → State gens u → Ends gens u r q → weight r ≤ n → T u q ≤ weight r
+  ends-least s e h = ends-induction gens all Least least-step (state-reduced gens all s) e s h
 
-    abbrev LeastLead : List ℕ → Word → Type 0
-    LeastLead r u = (v : Word) → State gens u → State gens v → r ≢ [] → Leads gens u r v → weight r ≤ n → T u v ≤ weight r
+  abbrev LeastLead : List ℕ → Word → Type 0
+  LeastLead r u = (v : Word) → State gens u → State gens v → r ≢ [] → Leads gens u r v → weight r ≤ n → T u v ≤ weight r
 
-    least-first : {u y : Word} {r : List ℕ} {a : Letter} → Shorter LeastLead r → Deeper LeastLead r u
-        → State gens u → State gens (a ∷ y) → r ≢ [] → weight r ≤ n → FirstLetter gens u r a y → T u (a ∷ y) ≤ weight r
-    least-first {y} shorter deeper s t ne h (kept {a} {z} l) =
-        let i = deeper z (omega arith) y (state-tail gens s) (state-tail gens t) ne l h in
-        omega (arith, closed .G a z y s t (omega arith))
-    least-first shorter deeper s t ne h (ended e) = ends-least s e h
-    least-first {u} {y} {a} shorter deeper s t ne h (passed {z} {p} {r} e not l) =
-        let sum = weight-append p r in
-        let i = ends-least s e (omega arith) in
-        let less = shorter-parts p r (ends-not-empty gens e) not in
-        let j = shorter r (a ∷ z) (less .1) (a ∷ y) (ends-state gens e) t not l (omega arith) in
-        omega (arith, closed .F u (a ∷ z) (a ∷ y) s (ends-state gens e) t (omega arith))
+  least-first : {u y : Word} {r : List ℕ} {a : Letter} → Shorter LeastLead r → Deeper LeastLead r u
+      → State gens u → State gens (a ∷ y) → r ≢ [] → weight r ≤ n → FirstLetter gens u r a y → T u (a ∷ y) ≤ weight r
+  least-first {y} shorter deeper s t ne h (kept {a} {z} l) =
+      let i = deeper z (omega arith) y (state-tail gens s) (state-tail gens t) ne l h in
+      omega (arith, closed .G a z y s t (omega arith))
+  least-first shorter deeper s t ne h (ended e) = ends-least s e h
+  least-first {u} {y} {a} shorter deeper s t ne h (passed {z} {p} {r} e not l) =
+      let sum = weight-append p r in
+      let i = ends-least s e (omega arith) in
+      let less = shorter-parts p r (ends-not-empty gens e) not in
+      let j = shorter r (a ∷ z) (less .1) (a ∷ y) (ends-state gens e) t not l (omega arith) in
+      omega (arith, closed .F u (a ∷ z) (a ∷ y) s (ends-state gens e) t (omega arith))
 
-    least-lead : (r : List ℕ) (u : Word) → Shorter LeastLead r → Deeper LeastLead r u → LeastLead r u
-    least-lead r u shorter deeper [] s t ne l h = ends-least s (leads-ends-nothing gens l ne) h
-    least-lead r u shorter deeper (a ∷ y) s t ne l h =
-        least-first shorter deeper s t ne h (first-letter gens all (state-reduced gens all s) (state-reduced gens all t) l)
+  least-lead : (r : List ℕ) (u : Word) → Shorter LeastLead r → Deeper LeastLead r u → LeastLead r u
+  least-lead r u shorter deeper [] s t ne l h = ends-least s (leads-ends-nothing gens l ne) h
+  least-lead r u shorter deeper (a ∷ y) s t ne l h =
+      least-first shorter deeper s t ne h (first-letter gens all (state-reduced gens all s) (state-reduced gens all t) l)
 
-    pub table-least : (u v : Word) → State gens u → State gens v → (r : List ℕ) → r ≢ [] → Leads gens u r v → weight r ≤ n → T u v ≤ weight r
-    table-least u v s t r ne l h = lengths-induction LeastLead least-lead r u v s t ne l h
+  pub table-least : (u v : Word) → State gens u → State gens v → (r : List ℕ) → r ≢ [] → Leads gens u r v → weight r ≤ n → T u v ≤ weight r
+  table-least u v s t r ne l h = lengths-induction LeastLead least-lead r u v s t ne l h

@@ -21,17 +21,18 @@ use Rattle.products.proofs.Rows.{FromRow, RowsClosed, RowsAttained}
 use Rattle.products.proofs.RowClasses.{reads-series, reads-made, rows-least}
 use Rattle.products.proofs.RowFirsts.{RowFirst, row-first-all}
 use Rattle.products.proofs.Rivals.{rival-of}
-use Rattle.products.proofs.Exact.{Exact, measure-append, measure-factor, exact-closed}
+use Rattle.products.proofs.Tables.{Closed}
+use Rattle.products.proofs.Exact.{Exact, measure-append}
 
 -- m is no less than what is read at q, or than what is read at some state and the table's entry from there to q together
 abbrev pub AtLeast : List Word → (Word → Word → ℕ) → (Word → ℕ) → Word → ℕ → Type 0
 AtLeast gens T read q m = (read q ≤ m) ⊎ ((v : Word) × State gens v × (read v + T v q ≤ m))
 
 -- Rule F over what is a sum already is no less than one sum over what is read, since rule F holds in the table. So a round may be done in place.
-pub at-least-on : (gens : List Word) (n : ℕ) (T : Word → Word → ℕ) → Exact gens n T → (read : Word → ℕ) (v q : Word) (m : ℕ)
+pub at-least-on : (gens : List Word) (n : ℕ) (T : Word → Word → ℕ) {weight : List ℕ → ℕ} → Closed gens weight n T → (read : Word → ℕ) (v q : Word) (m : ℕ)
     → State gens v → State gens q → m + T v q ≤ n → AtLeast gens T read v m → AtLeast gens T read q (m + T v q)
-at-least-on gens n T exact read v q m s t h (inl e) = inr (v, s, omega arith)
-at-least-on gens n T exact read v q m s t h (inr (w, s′, e)) = inr (w, s′, omega (arith, exact-closed gens measure measure-append (measure-factor gens) n T exact .F w v q s′ s t (omega arith)))
+at-least-on gens n T closed read v q m s t h (inl e) = inr (v, s, omega arith)
+at-least-on gens n T closed read v q m s t h (inr (w, s′, e)) = inr (w, s′, omega (arith, closed .F w v q s′ s t (omega arith)))
 
 module _ (gens : List Word) (n : ℕ) (T : Word → Word → ℕ) (x : Word) (Row : ℕ → Word → ℕ) where
   -- How a row is made of the one before. `Read i q` is what is read at q: the entry of row i at the state with the letter in front, and more
@@ -59,7 +60,7 @@ module _ (gens : List Word) (n : ℕ) (T : Word → Word → ℕ) (x : Word) (Ro
           let same = rounds .read-is i a v h e t in
           inr (v, t, omega (arith, rounds .round i v q h s′ s (omega arith)))
 
-  module _ (exact : Exact gens n T) where
+  module _ {weight : List ℕ → ℕ} (closed : Closed gens weight n T) where
     pub rows-closed-of : (Read : ℕ → Word → ℕ) → Rounds Read → RowsClosed gens n T x Row
     rows-closed-of Read rounds =
         record {
@@ -78,7 +79,7 @@ module _ (gens : List Word) (n : ℕ) (T : Word → Word → ℕ) (x : Word) (Ro
         chain zero v q o h s t k = absurd (omega arith)
         chain (suc i) v q o h s t k =
             no-more i q (Row (suc i) v + T v q) h t k
-            (at-least-on gens n T exact (Read i) v q (Row (suc i) v) s t k (rounds .attained i v h s (omega arith)))
+            (at-least-on gens n T closed (Read i) v q (Row (suc i) v) s t k (rounds .attained i v h s (omega arith)))
 
 module _ (gens : List Word) (n : ℕ) (T : Word → Word → ℕ) (x : Word) (Row : ℕ → Word → ℕ)
     (all : AllReduced gens) (exact : Exact gens n T) (rows : RowsClosed gens n T x Row) (reduced : Reduced x) (some : x ≢ []) where

@@ -61,6 +61,13 @@ pub record Rival (gens : List Word) (n : ℕ) (r : List ℕ) : Type 0 where
 abbrev pub NoneRight : List Word → Word → ℕ → Type 0
 NoneRight gens target n = (r : List ℕ) → Rival gens n r → Reaches gens r target → ⊥
 
+-- The unbounded verdict. 02, M-101: "Yes holds exactly when some series of generator numbers, of any length, multiplies to the target."
+abbrev pub YesRight : List Word → Word → Type 0
+YesRight gens target = (r : List ℕ) × Series gens r × Counted r × Reaches gens r target
+
+abbrev pub NoRight : List Word → Word → Type 0
+NoRight gens target = (r : List ℕ) → Series gens r → Counted r → Reaches gens r target → ⊥
+
 -- Which of two series stands before the other: at the first place where they differ it has the smaller number. 02, M-100: "first when generator
 -- numbers are compared from left to right".
 pub data Before : List ℕ → List ℕ → Type 0 where

@@ -8,6 +8,10 @@ use Prim.Native.Nat.{ℕ, _+_, _≤_}
 use Rattle.words.specs.Word.{Word, Equal, Normal}
 use Rattle.products.specs.Product.{generator, Factor, Series, letters, measure}
 
+-- Every series weighs nothing: the weight by which it only counts that there is a series.
+abbrev pub weightless : List ℕ → ℕ
+weightless r = 0
+
 -- each generator is in normal form
 abbrev pub AllNormal : List Word → Type 0
 AllNormal gens = (j : ℕ) → Factor gens j → Normal (generator gens j)
