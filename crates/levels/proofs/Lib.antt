@@ -1,2 +1,3 @@
 pub mod Relaxing
 pub mod Passing
+pub mod Closing

@@ -9,16 +9,27 @@ use native.Mathlib.Nat.{le-refl, add-comm}
 use native.Mathlib.Decide.{ℕ-discrete, decLe, decLt}
 use native.Mathlib.Omega.{arith}
 use lib.ListN.{length, List·getD-eq-default}
-use Rattle.levels.specs.Levels.{entry, Uses, Relaxed, Rules, Using, first, second, Closed}
-use Rattle.levels.specs.Passes.{Counts, Sound, Premise, led, missing, Forward, Settled, Passed, NoneBetween}
+use Rattle.levels.specs.Levels.{entry, Uses, Lowers, Relaxed, Rules, Using, first, second, Closed}
+use Rattle.levels.specs.Passes.{Bounded, Counts, Sound, Premise, led, missing, Forward, Settled, Passed, NoneBetween}
 use Rattle.levels.proofs.Relaxing.{lowers-length, lowers-falls, lowers-keeps, lowers-floor, lowers-to-level, lowers-sound}
+
+pub counts-bounded : {n N : ℕ} {t : List ℕ} → Counts n N t → Bounded n N t
+counts-bounded counts = record { long = counts .long; high = counts .high }
+
+pub bounded-relaxed : {n N k : ℕ} {Y : Uses} {t t′ : List ℕ} → Bounded n N t → Relaxed k Y t t′ → Bounded n N t′
+bounded-relaxed bounded relaxed =
+    record {
+      long = lowers-length (relaxed .lowers) ∙ bounded .long;
+      high = λ p inside. omega (arith, lowers-falls (relaxed .lowers) p, bounded .high p inside);
+    }
 
 pub counts-relaxed : {n N k : ℕ} {Y : Uses} {t t′ : List ℕ} → Counts n N t → 1 ≤ k → Relaxed k Y t t′ → Counts n N t′
 counts-relaxed counts positive relaxed =
+    let bounded = bounded-relaxed (counts-bounded counts) relaxed in
     record {
-      long = lowers-length (relaxed .lowers) ∙ counts .long;
+      long = bounded .long;
       low = λ p inside. lowers-floor (relaxed .lowers) positive p (counts .low p inside);
-      high = λ p inside. omega (arith, lowers-falls (relaxed .lowers) p, counts .high p inside);
+      high = bounded .high;
     }
 
 -- a place other than z that is settled when the pass leaves z was settled when it came to z
@@ -49,6 +60,17 @@ module _ {Rule : Rules} {N : ℕ} (rules : Forward Rule N) where
   using-later : {z q c : ℕ} → Using Rule z q c → N ≤ q → z < c
   using-later {z} {q} {c} (first r) beyond = rules .later z q c r beyond
   using-later {z} {q} {c} (second r) beyond = absurd (omega (arith, rules .inside q z c r .0))
+
+  -- a table stays sound where the rules that use a place are relaxed by a right value of it
+  pub using-sound : (Led : ℕ → ℕ → Type 0) (m : ℕ) {k z : ℕ} {t t′ : List ℕ} → ((p q c v w : ℕ) → Rule p q c → Led p v → Premise Led N q w → Led c (v + w))
+      → length t ≡ N → z < N → Led z k → Lowers k (Using Rule z) t t′ → Sound Led m t → Sound Led m t′
+  using-sound Led m {k} {z} {t} leads long inside z-led run sound =
+      lowers-sound Led m (λ q c v uses premise. sound-store uses (subst (λ (l : ℕ). Premise Led l q v) long premise)) run sound
+    where
+      sound-store : {q c v : ℕ} → Using Rule z q c → Premise Led N q v → Led c (k + v)
+      sound-store {q} {c} {v} (first r) premise = leads z q c k v r z-led premise
+      sound-store {q} {c} {v} (second r) (led within q-led) = rw (add-comm k v) (leads q z c v k r q-led (led inside z-led))
+      sound-store {q} {c} {v} (second r) (missing beyond none) = absurd (omega (arith, rules .inside q z c r .0))
 
   module _ {n k z : ℕ} {t t′ : List ℕ} (counts : Counts n N t) (positive : 1 ≤ k) (level : entry t z ≡ k) (relaxed : Relaxed k (Using Rule z) t t′) where
     -- what was stored while z was relaxed is above the level, or at it behind z
@@ -91,15 +113,7 @@ module _ {Rule : Rules} {N : ℕ} (rules : Forward Rule N) where
     pub pass-sound : (Led : ℕ → ℕ → Type 0) (m : ℕ) → ((p q c v w : ℕ) → Rule p q c → Led p v → Premise Led N q w → Led c (v + w))
         → z < N → k ≤ m → Sound Led m t → Sound Led m t′
     pass-sound Led m leads inside small sound =
-        lowers-sound Led m (λ q c v uses premise. sound-store uses (subst (λ (l : ℕ). Premise Led l q v) (counts .long) premise)) (relaxed .lowers) sound
-      where
-        z-led : Led z k
-        z-led = subst (Led z) level (sound z (omega (arith, counts .long)) (omega arith))
-
-        sound-store : {q c v : ℕ} → Using Rule z q c → Premise Led N q v → Led c (k + v)
-        sound-store {q} {c} {v} (first r) premise = leads z q c k v r z-led premise
-        sound-store {q} {c} {v} (second r) (led within q-led) = rw (add-comm k v) (leads q z c v k r q-led (led inside z-led))
-        sound-store {q} {c} {v} (second r) (missing beyond none) = absurd (omega (arith, rules .inside q z c r .0))
+        using-sound Led m leads (counts .long) inside (subst (Led z) level (sound z (omega (arith, counts .long)) (omega arith))) (relaxed .lowers) sound
 
 -- ---- from level to level
 

@@ -13,11 +13,11 @@ use Rattle.levels.specs.Levels.{entry, Uses, Lowers, done, store, Relaxe
 use Rattle.levels.specs.Passes.{Only, Upto, Sound, Premise, led, missing}
 
 -- an entry behind a store: it was stored to, or it is as it was
-data Stored (t : List ℕ) (c v p : ℕ) : Type 0 where
+pub data Stored (t : List ℕ) (c v p : ℕ) : Type 0 where
   here : p ≡ c → entry (set t c v) p ≡ v → Stored t c v p
   elsewhere : entry (set t c v) p ≡ entry t p → Stored t c v p
 
-stored : (t : List ℕ) (c v p : ℕ) → c < length t → Stored t c v p
+pub stored : (t : List ℕ) (c v p : ℕ) → c < length t → Stored t c v p
 stored t c v p inside =
     elim (ℕ-discrete p c) [
       | yes e ↦ here e (ap (entry (set t c v)) e ∙ getD-set-same t c v 0 inside)

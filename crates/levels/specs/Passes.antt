@@ -15,7 +15,12 @@ Only q c q′ c′ = (q′ ≡ q) × (c′ ≡ c)
 abbrev pub Upto : (ℕ → Uses) → ℕ → Uses
 Upto Y i q c = (j : ℕ) × (j < i) × Y j q c
 
--- A table of N counts from 1 to n + 1. That n + 1 stands for none.
+-- A table of N numbers up to n + 1. That n + 1 stands for none.
+pub record Bounded (n N : ℕ) (t : List ℕ) : Type 0 where
+  pub long : length t ≡ N
+  pub high : (p : ℕ) → p < N → entry t p ≤ n + 1
+
+-- The same of counts: none is 0.
 pub record Counts (n N : ℕ) (t : List ℕ) : Type 0 where
   pub long : length t ≡ N
   pub low : (p : ℕ) → p < N → 1 ≤ entry t p

@@ -6,3 +6,4 @@ mod MadeRows
 pub mod WordRows
 pub mod FilledFits
 pub mod Unique
+pub mod Reaching

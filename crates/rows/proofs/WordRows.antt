@@ -16,9 +16,9 @@ use borrow.Author.Tests.{eq-eqb, ne-eqb}
 use Rattle.words.specs.Word.{Letter, R, S, Word}
 use Rattle.refusals.specs.Telling.{pick}
 use Rattle.words.specs.Bytes.{letter, word}
-use Rattle.products.specs.State.{State, LeastLead}
+use Rattle.products.specs.State.{State, LeastBy}
 use Rattle.products.proofs.States.{state-tail}
-use Rattle.products.proofs.Exact.{Exact}
+use Rattle.products.proofs.Exact.{ExactBy}
 use Rattle.products.proofs.Verdict.{AtLeast, Rounds}
 use Rattle.trees.specs.Tree.{at, wordAt, Child, Tree}
 use Rattle.trees.proofs.Nodes.{node-number, node-number-at, state-number}
@@ -52,10 +52,11 @@ module _ (gens words : List Word) (count n : ℕ) (letters rests childrenR child
   number-inside : (q : Word) → State gens q → node-number words q < count
   number-inside q s = omega (arith, state-number tree q s .0)
 
-  pub table-exact : ((p q : ℕ) → p < count → q < count → LeastLead gens n (wordAt words p) (wordAt words q) (at table (place count p q)))
-      → Exact gens n (tableAt words count table)
-  table-exact exact u v s t =
-      subst₂ (λ (x y : Word). LeastLead gens n x y (tableAt words count table u v)) (state-number tree u s .1) (state-number tree v t .1)
+  pub table-exact : (weight : List ℕ → ℕ)
+      → ((p q : ℕ) → p < count → q < count → LeastBy gens weight n (wordAt words p) (wordAt words q) (at table (place count p q)))
+      → ExactBy gens weight n (tableAt words count table)
+  table-exact weight exact u v s t =
+      subst₂ (λ (x y : Word). LeastBy gens weight n x y (tableAt words count table u v)) (state-number tree u s .1) (state-number tree v t .1)
       (exact (node-number words u) (node-number words v) (number-inside u s) (number-inside v t))
 
   module _ (target rows : List ℕ) (path : PathRows count n childrenR childrenS target table rows (length target)) where

@@ -3,27 +3,21 @@
 --     searched       and what it answers is what the search promises
 --     unsearched     where the inputs do not fit nothing changes
 -- Assumes nothing.
-use mathlib.Core.Bool.{Bool, true, false}
+use mathlib.Core.Bool.{Bool}
 use mathlib.Core.Path.{refl, _∙_}
 use mathlib.Core.List.{List}
 use Prim.Native.Nat.{ℕ, suc, _*_}
 use native.Mathlib.Omega.{arith}
 use lib.ListN.{length}
+use Rattle.products.specs.Product.{measure}
 use Rattle.trees.proofs.Remaining.{drop-later}
 use Rattle.tables.specs.Filling.{Filled as TableFilled}
-use Rattle.rows.specs.Rows.{Fits as RowsFit, Filled as RowsFilled, Fills as FillsRows}
-use Rattle.rows.proofs.FilledFits.{filled-fits}
+use Rattle.rows.specs.Rows.{Filled as RowsFilled, Fills as FillsRows}
+use Rattle.rows.proofs.FilledFits.{filled-fits, rows-filled}
 use Rattle.search.specs.Search.{Lent, used, Fits, Searches}
 use Rattle.search.specs.Answering.{Tabulated, Answered}
 use Rattle.search.specs.declared.Found.{Found}
 use Rattle.search.specs.declared.Found.the-variants.{Unfit}
-
--- rows that fit are filled
-rows-filled : (count n : ℕ) (childrenR childrenS target table before : List ℕ) (r : Bool) (after : List ℕ)
-    → FillsRows count n childrenR childrenS target table before r after → RowsFit count n childrenR childrenS target table before
-    → RowsFilled count n childrenR childrenS target table before after
-rows-filled count n childrenR childrenS target table before true after (fits, filled) fit = filled
-rows-filled count n childrenR childrenS target table before false after (unfit, kept) fit = absurd (unfit fit)
 
 -- the tables are written, and the witness is not
 abbrev tabled : List ℕ → List ℕ → Lent → Lent
@@ -31,11 +25,11 @@ tabled table rows lent = record { first = table; second = rows; witness = lent .
 
 module _ {count n : ℕ} {letters rests childrenR childrenS wholes target : List ℕ} {lent : Lent} where
   module _ (fits : Fits count letters rests childrenR childrenS wholes target n lent) {table : List ℕ}
-      (filled : TableFilled count letters rests childrenR childrenS wholes n (lent .first) table)
+      (filled : TableFilled measure count letters rests childrenR childrenS wholes n (lent .first) table)
       (r : Bool) {rows : List ℕ} (fills : FillsRows count n childrenR childrenS target table (lent .second) r rows) where
     by-rows : RowsFilled count n childrenR childrenS target table (lent .second) rows
     by-rows =
-        rows-filled count n childrenR childrenS target table (lent .second) r rows fills
+        rows-filled r fills
         (filled-fits target (lent .second) (fits .table) filled (fits .room .few) (fits .room .short) (omega (arith, fits .room .second)))
 
     pub tabulated : Tabulated count letters rests childrenR childrenS wholes target n (tabled table rows lent)

@@ -5,7 +5,7 @@ use Prim.Native.Nat.{ℕ, _*_, _≤_, _<_}
 use native.Mathlib.Omega.{arith}
 use lib.ListN.{length, List·getD-eq-default}
 use Rattle.words.specs.Word.{Letter, R, S, Word}
-use Rattle.products.specs.Product.{generator, Factor, measure}
+use Rattle.products.specs.Product.{generator, Factor}
 use Rattle.products.specs.State.{State}
 use Rattle.products.proofs.States.{state-tail}
 use Rattle.products.proofs.Tables.{Closed}
@@ -78,17 +78,17 @@ module _ {gens words : List Word} {letters rests childrenR childrenS wholes : Li
   rule-g : (a : Letter) (x y : Word) → State gens (a ∷ x) → State gens (a ∷ y) → OnWords (at-pair x y) past (at-pair (a ∷ x) (a ∷ y))
   rule-g l x y s t = let (a, ra) = word-front l x s in let (b, rb) = word-front l y t in rw (← ra, ← rb) (G l _ _ a b)
 
-  module _ {n : ℕ} {table : List ℕ} (full : Full (length words) letters rests wholes n table) where
+  module _ {weight : List ℕ → ℕ} {n : ℕ} {table : List ℕ} (full : Full (length words) letters rests wholes weight n table) where
     -- the entry at the pair of two words
     abbrev pub entry-at : Word → Word → ℕ
     entry-at u v = entry table (at-pair u v)
 
     closed-one : (p c : ℕ) → OnWords p past c → entry table p ≤ n → entry table c ≤ entry table p
     closed-one p c rule small =
-        let none : entry table past ≡ 0 = List·getD-eq-default table 0 (omega (arith, full .counts .long)) in
+        let none : entry table past ≡ 0 = List·getD-eq-default table 0 (omega (arith, full .bounded .long)) in
         omega (arith, full .closed p past c rule (omega arith))
 
-    start-low : (j : ℕ) → Factor gens j → entry-at [] (generator gens j) ≤ 1
+    start-low : (j : ℕ) → Factor gens j → entry-at [] (generator gens j) ≤ weight (j ∷ [])
     start-low j factor =
         let below : j < length wholes = omega (arith, tree .wholes-count) in
         let root : 0 ≡ at-word [] = number-of 0 [] (tree .shape .some) (tree .root) in
@@ -96,7 +96,7 @@ module _ {gens words : List Word} {letters rests childrenR childrenS wholes : Li
         number-of (at wholes j) (generator gens j) (tree .shape .whole-inside j below) (tree .whole j factor) in
         rw (← root, ← node) (full .starts j below)
 
-    pub words-closed : Closed gens measure n entry-at
+    pub words-closed : Closed gens weight n entry-at
     words-closed =
         record {
           A = λ j factor small. start-low j factor;

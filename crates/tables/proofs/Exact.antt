@@ -1,19 +1,22 @@
--- A full table holds the least number of factors for every pair of nodes of a tree of normal generators. Assumes nothing.
-use mathlib.Core.List.{List}
-use Prim.Native.Nat.{ℕ, _*_, _<_}
-use native.Mathlib.Nat.{le-refl}
+-- A full table holds the least weight of a series for every pair of nodes of a tree of normal generators. Assumes that a series weighs what its parts weigh
+-- together.
+use mathlib.Core.Path.{_≡_, subst}
+use mathlib.Core.List.{List, _++_}
+use Prim.Native.Nat.{ℕ, _+_, _*_, _≤_, _<_}
 use native.Mathlib.Omega.{arith}
-use lib.ListN.{length, length-append}
+use lib.ListN.{length}
 use Rattle.words.specs.Word.{Word}
 use Rattle.words.proofs.Reduced.{reduced-of-normal}
-use Rattle.products.specs.Product.{generator, measure}
-use Rattle.products.specs.State.{AllNormal, LeastLead}
+use Rattle.products.specs.Product.{generator}
+use Rattle.products.specs.State.{AllNormal, LeastBy}
 use Rattle.products.proofs.Tables.{table-least}
-use Rattle.trees.specs.Tree.{wordAt, Shape, Tree}
+use Rattle.limits.specs.Limits.{mostFactors}
+use Rattle.trees.specs.Tree.{mostOfEntry, wordAt, Shape, Tree}
 use Rattle.levels.specs.Levels.{entry}
 use Rattle.tables.specs.Rules.{place}
 use Rattle.tables.specs.Nodes.{Followed, Linked}
 use Rattle.tables.specs.Levelling.{Full}
+use Rattle.tables.specs.Filling.{Fits}
 use Rattle.tables.proofs.Places.{place-inside}
 use Rattle.trees.proofs.Nodes.{node-number-at, child-r-node, child-s-node, child-r-found, child-s-found}
 use Rattle.tables.proofs.Sound.{pair-led}
@@ -39,7 +42,7 @@ module _ {count : ℕ} {letters rests childrenR childrenS wholes : List ℕ} whe
   )
 
 module _ {gens words : List Word} {letters rests childrenR childrenS wholes : List ℕ} (tree : Tree gens words letters rests childrenR childrenS wholes) where
-  pub tree-linked : Linked (length words) letters rests childrenR childrenS
+  tree-linked : Linked (length words) letters rests childrenR childrenS
   tree-linked =
       let (followed-r, followed-s) = shape-followed (tree .shape) in
       record {
@@ -53,18 +56,31 @@ module _ {gens words : List Word} {letters rests childrenR childrenS wholes : Li
         };
       }
 
-  pub full-exact : {n : ℕ} {table : List ℕ} → AllNormal gens → Full (length words) letters rests wholes n table
-      → (p q : ℕ) → p < length words → q < length words → LeastLead gens n (wordAt words p) (wordAt words q) (entry table (place (length words) p q))
-  full-exact {n} {table} normal full p q row column =
+  -- so a tree fits, where its nodes are few enough and there is room
+  pub tree-fits : {count n : ℕ} {table : List ℕ} → length words ≡ count → count ≤ mostOfEntry → n ≤ mostFactors → count * count ≤ length table
+      → Fits count letters rests childrenR childrenS wholes n table
+  tree-fits size few bound room =
+      record {
+        shape = subst (λ (k : ℕ). Shape k letters rests childrenR childrenS wholes) size (tree .shape);
+        linked = subst (λ (k : ℕ). Linked k letters rests childrenR childrenS) size tree-linked;
+        few = few;
+        bound = bound;
+        room = room;
+      }
+
+  pub full-exact : (weight : List ℕ → ℕ) → ((a b : List ℕ) → weight (a ++ b) ≡ weight a + weight b)
+      → {n : ℕ} {table : List ℕ} → AllNormal gens → Full (length words) letters rests wholes weight n table
+      → (p q : ℕ) → p < length words → q < length words → LeastBy gens weight n (wordAt words p) (wordAt words q) (entry table (place (length words) p q))
+  full-exact weight weight-append {n} {table} normal full p q row column =
       let inside : place (length words) p q < length words * length words = place-inside row column in
       record {
-        bounded = full .counts .high (place (length words) p q) inside;
+        bounded = full .bounded .high (place (length words) p q) inside;
         led = λ small.
-            let led = pair-led tree row column (full .made (place (length words) p q) (omega (arith, full .counts .long)) small) in
+            let led = pair-led tree weight weight-append row column (full .made (place (length words) p q) (omega (arith, full .bounded .long)) small) in
             (led .by, led .some, led .leads, led .weighs);
         least = λ r some leads small.
             rw (node-number-at tree p row, node-number-at tree q column) at
-            (table-least gens measure length-append (λ j factor. le-refl 1) n (entry-at tree full)
+            (table-least gens weight weight-append n (entry-at tree full)
             (λ j factor. reduced-of-normal (generator gens j) (normal j factor))
             (words-closed tree full) (wordAt words p) (wordAt words q) (tree .state p row) (tree .state q column) r some leads small);
       }

@@ -5,9 +5,12 @@ mod Steps
 mod Forward
 mod Pairs
 mod Visiting
+mod Making
 mod Levelled
+mod Using
+mod Closed
 mod Sound
 mod Complete
 pub mod Exact
-mod Filled
+pub mod Filled
 pub mod Unique

@@ -1,12 +1,12 @@
--- What the rules make at a pair of nodes is the number of factors of a series that leads from the one's word to the other's. Assumes nothing.
+-- What the rules make at a pair of nodes is the weight of a series that leads from the one's word to the other's. Assumes that a series weighs what its
+-- parts weigh together.
 use mathlib.Core.Path.{_≡_, refl, sym, ap, subst, _∙_}
 use mathlib.Core.Logic.{_≢_}
 use mathlib.Core.List.{List, [], _∷_, _++_, nil≢cons}
 use Prim.Native.Nat.{ℕ, _+_, _*_, _≤_, _<_}
 use native.Mathlib.Omega.{arith}
-use lib.ListN.{length, length-append}
+use lib.ListN.{length}
 use Rattle.words.specs.Word.{R, S, Word}
-use Rattle.products.specs.Product.{measure}
 use Rattle.products.specs.State.{Leads}
 use Rattle.products.proofs.States.{A, step-leads, leads-append, leads-behind}
 use Rattle.trees.specs.Tree.{at, wordAt, Tree}
@@ -17,13 +17,14 @@ use Rattle.tables.proofs.Forward.{rules-forward}
 use Rattle.trees.proofs.Nodes.{is-letter}
 use Rattle.tables.proofs.Leading.{leads-as, leads-b, leads-c, leads-d, leads-e}
 
-module _ {gens words : List Word} {letters rests childrenR childrenS wholes : List ℕ} (tree : Tree gens words letters rests childrenR childrenS wholes) where
-  -- a series, not empty, of measure k that leads from u to v
+module _ {gens words : List Word} {letters rests childrenR childrenS wholes : List ℕ} (tree : Tree gens words letters rests childrenR childrenS wholes)
+    (weight : List ℕ → ℕ) (weight-append : (a b : List ℕ) → weight (a ++ b) ≡ weight a + weight b) where
+  -- a series, not empty, of weight k that leads from u to v
   pub record Led (u v : Word) (k : ℕ) : Type 0 where
     pub by : List ℕ
     pub some : by ≢ []
     pub leads : Leads gens u by v
-    pub weighs : measure by ≡ k
+    pub weighs : weight by ≡ k
 
   -- the same at a place, for whatever pair of nodes has it
   abbrev LedAt : ℕ → ℕ → Type 0
@@ -52,7 +53,7 @@ module _ {gens words : List Word} {letters rests childrenR childrenS wholes : Li
         by = led .by ++ led′ .by;
         some = append-some (led .by) (led′ .by) (led .some);
         leads = step (led .by) (led′ .by) (led .leads) (led′ .leads);
-        weighs = omega (arith, length-append (led .by) (led′ .by), led .weighs, led′ .weighs);
+        weighs = omega (arith, weight-append (led .by) (led′ .by), led .weighs, led′ .weighs);
       }
 
   made-one : {p q c v : ℕ} → Rule (length words) letters rests p q c → length words * length words ≤ q → LedAt p v → LedAt c v
@@ -95,13 +96,13 @@ module _ {gens words : List Word} {letters rests childrenR childrenS wholes : Li
       led-at r s (joined (λ a b l l′. leads-append gens l l′) (led u v r m refl) (led′ v j m s refl))
   made-two (G x a b r s) inside led led′ = absurd (omega arith)
 
-  made-inside : {z v : ℕ} → Made (length words) letters rests wholes z v → z < length words * length words
+  made-inside : {z v : ℕ} → Made (length words) letters rests wholes weight z v → z < length words * length words
   made-inside (whole j below) = place-inside {x = 0} (tree .shape .some) (tree .shape .whole-inside j below)
   made-inside (one {p} {q} {c} rule past made) = rules-forward (length words) letters rests (tree .shape .rest-earlier) .inside p q c rule .2
   made-inside (two {p} {q} {c} rule made other) = rules-forward (length words) letters rests (tree .shape .rest-earlier) .inside p q c rule .2
 
   -- rule A: generator j leads from nothing to its own node
-  whole-led : (j : ℕ) → j < length wholes → Led (wordAt words 0) (wordAt words (at wholes j)) 1
+  whole-led : (j : ℕ) → j < length wholes → Led (wordAt words 0) (wordAt words (at wholes j)) (weight (j ∷ []))
   whole-led j below =
       let factor : j < length gens = omega (arith, tree .wholes-count) in
       record {
@@ -111,12 +112,12 @@ module _ {gens words : List Word} {letters rests childrenR childrenS wholes : Li
         weighs = refl;
       }
 
-  made-led : {z v : ℕ} → Made (length words) letters rests wholes z v → LedAt z v
+  made-led : {z v : ℕ} → Made (length words) letters rests wholes weight z v → LedAt z v
   made-led (whole j below) = led-at (tree .shape .some) (tree .shape .whole-inside j below) (whole-led j below)
   made-led (one rule past made) = made-one rule past (made-led made)
   made-led (two rule made other) = made-two rule (made-inside other) (made-led made) (made-led other)
 
   -- what the rules make at a pair of nodes
-  pub pair-led : {x y v : ℕ} → x < length words → y < length words → Made (length words) letters rests wholes (place (length words) x y) v
+  pub pair-led : {x y v : ℕ} → x < length words → y < length words → Made (length words) letters rests wholes weight (place (length words) x y) v
       → Led (wordAt words x) (wordAt words y) v
   pair-led {x} {y} row column made = made-led made x y row column refl

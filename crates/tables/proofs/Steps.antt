@@ -4,22 +4,36 @@ use mathlib.Core.Logic.{inl, inr}
 use mathlib.Core.List.{List}
 use Prim.Native.Nat.{ℕ, _+_, _*_, _≤_, _<_}
 use native.Mathlib.Omega.{arith}
+use Rattle.limits.specs.Limits.{mostFactors}
 use Rattle.trees.specs.Tree.{mostOfEntry}
 use Rattle.levels.specs.Levels.{entry, Uses, Relaxed}
-use Rattle.levels.specs.Passes.{Only, Upto}
+use Rattle.levels.specs.Passes.{Only, Upto, Bounded}
 use Rattle.levels.proofs.Relaxing.{relaxed-already, relaxed-same, relaxed-none}
-use Rattle.levels.proofs.Passing.{counts-relaxed}
+use Rattle.levels.proofs.Passing.{bounded-relaxed}
 use Rattle.tables.specs.Rules.{place}
 use Rattle.tables.specs.Nodes.{Finds}
 use Rattle.tables.specs.Relaxing.{Ready, Inside, UsesF}
 
+-- entries up to n + 1 are entries up to one more than the most that n is
+pub ready : {count n k : ℕ} {t : List ℕ} → count ≤ mostOfEntry → n ≤ mostFactors → 1 ≤ k → k ≤ n → Bounded n (count * count) t → Ready count k t
+ready few bound positive small bounded =
+    record {
+      few = few;
+      positive = positive;
+      small = omega arith;
+      bounded = record { long = bounded .long; high = λ p inside. omega (arith, bounded .high p inside) };
+    }
+
+-- another table at the same level
+pub ready-bounded : {count k : ℕ} {t t′ : List ℕ} → Ready count k t → Bounded mostFactors (count * count) t′ → Ready count k t′
+ready-bounded ready bounded = record { few = ready .few; positive = ready .positive; small = ready .small; bounded = bounded }
+
 pub ready-relaxed : {count k : ℕ} {Y : Uses} {t t′ : List ℕ} → Ready count k t → Relaxed k Y t t′ → Ready count k t′
-ready-relaxed ready relaxed =
-    record { few = ready .few; positive = ready .positive; small = ready .small; counts = counts-relaxed (ready .counts) (ready .positive) relaxed }
+ready-relaxed ready relaxed = ready-bounded ready (bounded-relaxed (ready .bounded) relaxed)
 
 -- a level and an entry fit 16 bits together
 pub sum-fits : {count k : ℕ} {t : List ℕ} {q : ℕ} → Ready count k t → q < count * count → k + entry t q ≤ mostOfEntry
-sum-fits {q = q} ready inside = omega (arith, ready .small, ready .counts .high q inside)
+sum-fits {q = q} ready inside = omega (arith, ready .small, ready .bounded .high q inside)
 
 -- the same places under other names
 pub relaxed-at : {k : ℕ} {t t′ : List ℕ} (q q′ c c′ : ℕ) → q ≡ q′ → c ≡ c′ → Relaxed k (Only q c) t t′ → Relaxed k (Only q′ c′) t t′

@@ -6,7 +6,7 @@ use Prim.Native.Nat.{ℕ, _*_, _≤_, _<_}
 use lib.ListN.{length, take, drop}
 use Rattle.limits.specs.Limits.{mostFactors}
 use Rattle.words.specs.Word.{Word}
-use Rattle.products.specs.State.{AllNormal, LeastLead}
+use Rattle.products.specs.State.{AllNormal, LeastBy}
 use Rattle.trees.specs.Tree.{at, mostOfEntry, wordAt, Shape, Tree}
 use Rattle.tables.specs.Rules.{place}
 use Rattle.tables.specs.Nodes.{Linked}
@@ -22,20 +22,20 @@ pub record Fits (count : ℕ) (letters rests childrenR childrenS wholes : List �
   pub room : count * count ≤ length table
 
 -- The first count × count entries hold, for each pair of nodes, the least number that the rules make, or n + 1: this fixes them
--- (proofs/Unique.antt), whether the slices are a tree or not. In the tree of a list of normal generators that is the least number of factors
--- that leads from the one's word to the other's; a series that leads from state to state has one factor or more, so the diagonal is not 0. The
--- other entries are as they were.
--- 01: "each pair of states gets the least number of factors that makes u⁻¹v".
-pub record Filled (count : ℕ) (letters rests childrenR childrenS wholes : List ℕ) (n : ℕ) (before after : List ℕ) : Type 0 where
+-- (proofs/Unique.antt), whether the slices are a tree or not. In the tree of a list of normal generators that is the least weight of a series, of one
+-- factor or more, that leads from the one's word to the other's. The other entries are as they were.
+-- 01: "each pair of states gets the least number of factors that makes u⁻¹v". That is the weight of `fill`, which is the measure; the diagonal is then not 0.
+-- For `close` every series weighs nothing, and n is 1: an entry is 0 where a series leads from the one to the other, and 2 where none does.
+pub record Filled (weight : List ℕ → ℕ) (count : ℕ) (letters rests childrenR childrenS wholes : List ℕ) (n : ℕ) (before after : List ℕ) : Type 0 where
   pub long : length after ≡ length before
   pub kept : drop (count * count) after ≡ drop (count * count) before
-  pub full : Full count letters rests wholes n (take (count * count) after)
+  pub full : Full count letters rests wholes weight n (take (count * count) after)
   pub exact : (gens words : List Word) → AllNormal gens → Tree gens words letters rests childrenR childrenS wholes → length words ≡ count
-      → (p q : ℕ) → p < count → q < count → LeastLead gens n (wordAt words p) (wordAt words q) (at after (place count p q))
+      → (p q : ℕ) → p < count → q < count → LeastBy gens weight n (wordAt words p) (wordAt words q) (at after (place count p q))
 
 -- Where the inputs fit the table is filled; else nothing changes, and the answer says so.
-abbrev pub Fills : ℕ → List ℕ → List ℕ → List ℕ → List ℕ → List ℕ → ℕ → List ℕ → Bool → List ℕ → Type 0
-Fills count letters rests childrenR childrenS wholes n before true after =
-    Fits count letters rests childrenR childrenS wholes n before × Filled count letters rests childrenR childrenS wholes n before after
-Fills count letters rests childrenR childrenS wholes n before false after =
+abbrev pub Fills : (List ℕ → ℕ) → ℕ → List ℕ → List ℕ → List ℕ → List ℕ → List ℕ → ℕ → List ℕ → Bool → List ℕ → Type 0
+Fills weight count letters rests childrenR childrenS wholes n before true after =
+    Fits count letters rests childrenR childrenS wholes n before × Filled weight count letters rests childrenR childrenS wholes n before after
+Fills weight count letters rests childrenR childrenS wholes n before false after =
     (Fits count letters rests childrenR childrenS wholes n before → ⊥) × (after ≡ before)

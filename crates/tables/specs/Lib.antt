@@ -3,3 +3,4 @@ pub mod Filling
 pub mod Nodes
 pub mod Relaxing
 pub mod Levelling
+pub mod Closing

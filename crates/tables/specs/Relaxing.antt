@@ -5,7 +5,7 @@ use Prim.Native.Nat.{ℕ, _*_, _≤_, _<_}
 use Rattle.limits.specs.Limits.{mostFactors}
 use Rattle.trees.specs.Tree.{mostOfEntry}
 use Rattle.levels.specs.Levels.{Uses}
-use Rattle.levels.specs.Passes.{Only, Upto, Counts}
+use Rattle.levels.specs.Passes.{Only, Upto, Bounded}
 use Rattle.tables.specs.Rules.{place}
 use Rattle.tables.specs.Nodes.{Front}
 
@@ -14,7 +14,7 @@ pub record Ready (count k : ℕ) (t : List ℕ) : Type 0 where
   pub few : count ≤ mostOfEntry
   pub positive : 1 ≤ k
   pub small : k ≤ mostFactors
-  pub counts : Counts mostFactors (count * count) t
+  pub bounded : Bounded mostFactors (count * count) t
 
 module _ (count : ℕ) where
   -- the conclusion (a, b) of a rule with one premise

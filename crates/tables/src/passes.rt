@@ -15,6 +15,7 @@ ghost use lib.ListN.{length, replicate};
 ghost use Rattle.limits.specs.Limits.{mostFactors};
 ghost use Rattle.refusals.specs.Telling.{Tells};
 ghost use Rattle.trees.specs.Tree.{mostOfEntry};
+ghost use Rattle.products.specs.Product.{measure};
 ghost use Rattle.levels.specs.Levels.{Relaxed};
 ghost use Rattle.tables.specs.Rules.{place, Rule};
 ghost use Rattle.tables.specs.Nodes.{Linked, AllBelow};
@@ -69,7 +70,7 @@ fn absent_too(so_far: bool, entry: u16, low: Factors, high: Factors) -> bool
 }
 
 // Whether no place from `from` up to `end` has an entry from `low` to `high`. No early end, so that the loop runs on many entries at once.
-fn absent(table: &[u16], from: usize, end: usize, low: Factors, high: Factors) -> bool
+pub(crate) fn absent(table: &[u16], from: usize, end: usize, low: Factors, high: Factors) -> bool
     requires { ⌜ from ≤ end ⌝ }
     requires { ⌜ end ≤ length (now table) ⌝ }
     ensures { λ r. ⌜ Tells r (Without (low .0) (high .0) (now (table .entry)) from end) ⌝ }
@@ -100,7 +101,7 @@ fn find(table: &[u16], from: usize, last: usize, k: Factors) -> usize
 }
 
 // The first column from y on in row x where the entry is k, or the last column. Most rows have no such entry, which `absent` tells sooner.
-fn seek(table: &[u16], count: usize, x: usize, y: usize, k: Factors) -> usize
+pub(crate) fn seek(table: &[u16], count: usize, x: usize, y: usize, k: Factors) -> usize
     requires { ⌜ Ready count (k .0) (now table) ⌝ }
     requires { ⌜ x < count ⌝ }
     requires { ⌜ y < count ⌝ }
@@ -129,7 +130,7 @@ fn pass(
     requires { ⌜ Ready count (k .0) (now table) ⌝ }
     requires { ⌜ Linked count (now letters) (now rests) (now «children_r») (now «children_s») ⌝ }
     requires { ⌜ 1 ≤ count ⌝ }
-    ensures { λ _. ⌜ Passes (Rule count (now (letters .entry)) (now (rests .entry))) (k .0) (count * count) (now (table .entry)) (now (table .exit)) ⌝ }
+    ensures { λ _. ⌜ Passes (Visited (Rule count (now (letters .entry)) (now (rests .entry))) (k .0)) (count * count) (now (table .entry)) (now (table .exit)) ⌝ }
 {
     let next = k.0 + 1;
     if absent(table, 0, table.len(), Factors(next), Factors(u16::MAX)) {
@@ -181,7 +182,7 @@ fn level_after(table: &[u16], k: Factors, n: Factors) -> Factors
 }
 
 // Every entry becomes `none`: the n + 1 that stands for no series.
-fn clear(table: &mut [u16], none: Factors)
+pub(crate) fn clear(table: &mut [u16], none: Factors)
     ensures { λ _. ⌜ now (table .exit) ≡ replicate (length (now (table .entry))) (none .0) ⌝ }
 {
     let mut p = 0;
@@ -192,7 +193,7 @@ fn clear(table: &mut [u16], none: Factors)
 }
 
 // Rule A: each generator leads from nothing, which is node 0, to its own node. Row 0 begins at the table's first place.
-fn start(table: &mut [u16], count: usize, wholes: &[u16])
+pub(crate) fn start(table: &mut [u16], count: usize, wholes: &[u16])
     requires { ⌜ length (now table) ≡ count * count ⌝ }
     requires { ⌜ 1 ≤ count ⌝ }
     requires { ⌜ AllBelow (now wholes) (length (now wholes)) count ⌝ }
@@ -222,7 +223,7 @@ pub(crate) fn fill_levels(
     requires { ⌜ n .0 ≤ mostFactors ⌝ }
     requires { ⌜ Linked count (now letters) (now rests) (now «children_r») (now «children_s») ⌝ }
     requires { ⌜ AllBelow (now wholes) (length (now wholes)) count ⌝ }
-    ensures { λ _. ⌜ Full count (now (letters .entry)) (now (rests .entry)) (now (wholes .entry)) (n .0) (now (table .exit)) ⌝ }
+    ensures { λ _. ⌜ Full count (now (letters .entry)) (now (rests .entry)) (now (wholes .entry)) measure (n .0) (now (table .exit)) ⌝ }
 {
     let none = n.0 + 1;
     clear(table, Factors(none));

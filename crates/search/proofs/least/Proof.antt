@@ -1,5 +1,6 @@
 -- A table that was filled fits the rows, so both are filled, and the last row decides. Assumes nothing.
 use Rattle.refusals.proofs.Telling.{told, told-not}
+use Rattle.products.specs.Product.{measure}
 use Rattle.tables.specs.Filling.{Filled}
 use Rattle.search.specs.Search.{Fits}
 use Rattle.search.proofs.Tabulating.{tabulated, searched, unsearched}
@@ -35,7 +36,7 @@ fits-at c =
 
 table-at : (c : tie.After-fill2)
     → let a = start c .args in
-    Filled (a .count) (a .letters .now) (a .rests .now) (a .children-r .now) (a .children-s .now) (a .wholes .now) (a .n .0) (a .first .now)
+    Filled measure (a .count) (a .letters .now) (a .rests .now) (a .children-r .now) (a .children-s .now) (a .wholes .now) (a .n .0) (a .first .now)
     (tabled c .fill .last .1 .1 .1 .1 .1 .1 .1 .0)
 table-at c = (rw (c .before .before .before .if2 .taken) at (c .before .before .before .before .before .before .fill .ensures)) .1
 

@@ -1,7 +1,9 @@
 -- The front part of the table is filled. Assumes nothing.
 use mathlib.Core.Path.{refl, sym}
 use Prim.Native.Nat.{_*_}
+use lib.ListN.{length-append}
 use lib.Seq.{length-take-le, length-front}
+use Rattle.products.specs.Product.{measure}
 use Rattle.tables.proofs.Places.{square-bounded}
 use Rattle.refusals.proofs.Telling.{told, told-not}
 use Rattle.tables.proofs.Filled.{filled-part}
@@ -50,7 +52,7 @@ returns c =
     let at-if1 = at-fill-levels .before .before in
     let at-fits2 = at-if1 .before in
     let fits = told (at-fits2 .fits2 .result) (at-if1 .if1 .taken) (at-fits2 .fits2 .ensures) in
-    (fits, filled-part _ (fits .room) (at-fill-levels .fill-levels .ensures))
+    (fits, filled-part measure length-append _ (fits .room) (at-fill-levels .fill-levels .ensures))
 
 same-length-2 : tie.Need-same-length-2
 same-length-2 c = search needs

@@ -2,7 +2,9 @@
 use mathlib.Core.Path.{sym, ap, _∙_}
 use Prim.Native.Nat.{ℕ, _+_, _-_, _≤_}
 use lib.ListN.{replicate}
-use Rattle.tables.proofs.Levelled.{Levelled, ready, levelled-begins, levelled-more, levelled-full}
+use Rattle.levels.proofs.Passing.{counts-bounded}
+use Rattle.tables.proofs.Steps.{ready}
+use Rattle.tables.proofs.Levelled.{Levelled, levelled-begins, levelled-more, levelled-full}
 use borrow.Author.Needs.{needs}
 use native.Mathlib.Omega.{arith}
 use Rattle.tables.proofs.passes.fill_levels.Statement.{statement}
@@ -54,7 +56,7 @@ pass-requires c κs =
     let start = entered at-loop in
     let p = start .pre in
     let l = at-loop .loop in
-    (ready (p .1 .1 .0) (p .1 .1 .1 .0) (l .inv .0) (c .before .if1 .taken) (l .inv .2 .counts), (p .1 .1 .1 .1 .0, p .1 .0))
+    (ready (p .1 .1 .0) (p .1 .1 .1 .0) (l .inv .0) (c .before .if1 .taken) (counts-bounded (l .inv .2 .counts)), (p .1 .1 .1 .1 .0, p .1 .0))
 
 level-after-requires : tie.Need-level-after-requires Inv-loop μ-loop
 level-after-requires c κs =

@@ -1,11 +1,11 @@
 -- Where no entry lies above the level, a pass changes nothing. In the loop the places before the pair are visited.
 -- Those that `seek` passes over are without the level. Assumes nothing.
-use mathlib.Core.Path.{_≡_, sym, subst}
+use mathlib.Core.Path.{_≡_, refl, sym, subst, _∙_}
 use Prim.Native.Nat.{ℕ, _*_, _-_, _≤_, _<_}
 use Rattle.tables.specs.Rules.{place, Rule}
-use Rattle.tables.specs.Levelling.{Passes, begin, visit}
+use Rattle.tables.specs.Levelling.{Visited, skipped, Passes, begin, visit}
 use Rattle.tables.proofs.Places.{place-inside, place-past}
-use Rattle.tables.proofs.Visiting.{passes-ready, passes-length, passes-over, passes-low}
+use Rattle.tables.proofs.Visiting.{passes-ready, passes-over, visited-bounded, passes-low}
 use Rattle.levels.specs.Levels.{entry}
 use Rattle.refusals.proofs.Telling.{told}
 use native.Mathlib.Decide.{decLt}
@@ -17,7 +17,7 @@ use Rattle.tables.proofs.passes.pass.Tie as tie
 abbrev Inv-loop : tie.InvT-loop
 Inv-loop table₀ count letters rests children-r children-s k next pair₀ table pair =
     (pair .column < count) × (place count (pair .row) (pair .column) ≤ count * count)
-    × Passes (Rule count letters rests) (k .0) (place count (pair .row) (pair .column)) table₀ table
+    × Passes (Visited (Rule count letters rests) (k .0)) (place count (pair .row) (pair .column)) table₀ table
 
 abbrev μ-loop : tie.MeasureT-loop
 μ-loop table₀ count letters rests children-r children-s k next pair₀ table pair = count * count - place count (pair .row) (pair .column)
@@ -42,7 +42,7 @@ returns : tie.Need-returns Inv-loop μ-loop
 returns c =
     let start = begun (c .before) in
     let a = start .args in
-    let counts = start .pre .0 .counts in
+    let counts = start .pre .0 .bounded in
     let none = told (c .before .absent .result) (c .if1 .taken) (c .before .absent .ensures) in
     passes-low
     (λ p inside. elim (decLt (a .k .0) (entry (a .table .now) p)) [
@@ -57,13 +57,13 @@ loop-holds c =
     let a = start .args in
     let first : 0 ≡ place (a .count) 0 0 = omega arith in
     let rules = Rule (a .count) (a .letters .now) (a .rests .now) in
-    (start .pre .1 .1, omega arith, subst (λ (z : ℕ). Passes rules (a .k .0) z (a .table .now) (a .table .now)) first begin)
+    (start .pre .1 .1, omega arith, subst (λ (z : ℕ). Passes (Visited rules (a .k .0)) z (a .table .now) (a .table .now)) first begin)
 
 seek-requires : tie.Need-seek-requires Inv-loop μ-loop
 seek-requires c κs =
     let at-loop = c .before .before .before in
     let start = entered at-loop in
-    (passes-ready (start .pre .0) (at-loop .loop .inv .2), (c .before .if2 .taken, at-loop .loop .inv .0))
+    (passes-ready visited-bounded (start .pre .0) (at-loop .loop .inv .2), (c .before .if2 .taken, at-loop .loop .inv .0))
 
 visit-requires : tie.Need-visit-requires Inv-loop μ-loop
 visit-requires c κs =
@@ -71,7 +71,7 @@ visit-requires c κs =
     let at-loop = at-if2 .before .before in
     let start = entered at-loop in
     let p = start .pre in
-    (passes-ready (p .0) (at-loop .loop .inv .2), (p .1 .0, (at-if2 .if2 .taken, omega (arith, c .before .seek .ensures .inside, p .1 .1))))
+    (passes-ready visited-bounded (p .0) (at-loop .loop .inv .2), (p .1 .0, (at-if2 .if2 .taken, omega (arith, c .before .seek .ensures .inside, p .1 .1))))
 
 next-pair-requires : tie.Need-next-pair-requires Inv-loop μ-loop
 next-pair-requires c κs =
@@ -106,12 +106,17 @@ loop-again c =
     let last : place (a .count) (l .pair .row) (a .count - 1) < a .count * a .count = place-inside (at-if2 .if2 .taken) (omega (arith, start .pre .1 .1)) in (
       c .next-pair .ensures .1,
       omega (arith, c .next-pair .ensures .0, sought .inside),
-      subst (λ (z : ℕ). Passes rules (a .k .0) z (a .table .now) (at-visit .visit .last .0)) (sym (c .next-pair .ensures .0))
-          (visit (passes-over (sought .behind) (sought .without) (l .inv .2)) (at-visit .visit .ensures)),
+      subst (λ (z : ℕ). Passes (Visited rules (a .k .0)) z (a .table .now) (at-visit .visit .last .0)) (sym (c .next-pair .ensures .0))
+          (visit
+          (passes-over (sought .behind) (λ m behind inside. skipped (λ level. sought .without m inside behind (omega arith) (omega arith)) refl) (l .inv .2))
+          (at-visit .visit .ensures)),
     )
 
 same-length-2 : tie.Need-same-length-2 Inv-loop μ-loop
-same-length-2 c = passes-length (c .before .before .loop .inv .2)
+same-length-2 c =
+    let at-loop = c .before .before in
+    let ready = entered at-loop .pre .0 in
+    passes-ready visited-bounded ready (at-loop .loop .inv .2) .bounded .long ∙ sym (ready .bounded .long)
 
 returns-2 : tie.Need-returns-2 Inv-loop μ-loop
 returns-2 c =
@@ -121,7 +126,7 @@ returns-2 c =
     let l = at-loop .loop in
     let past : a .count * a .count ≤ place (a .count) (l .pair .row) (l .pair .column) = place-past (l .pair .column) (c .if2 .left) in
     let end : place (a .count) (l .pair .row) (l .pair .column) ≡ a .count * a .count = omega (arith, l .inv .1) in
-    subst (λ (z : ℕ). Passes (Rule (a .count) (a .letters .now) (a .rests .now)) (a .k .0) z (a .table .now) (l .table)) end (l .inv .2)
+    subst (λ (z : ℕ). Passes (Visited (Rule (a .count) (a .letters .now) (a .rests .now)) (a .k .0)) z (a .table .now) (l .table)) end (l .inv .2)
 
 pub pass-spec : {M : Type 1} → statement M
 pass-spec =

@@ -20,7 +20,7 @@ add-absent c = search needs
 absent-requires : tie.Need-absent-requires
 absent-requires c κs =
     let p = c .before .before .before .pre in
-    (omega arith, omega (arith, c .before .place-of .ensures .0, row-inside (p .1 .0), p .0 .counts .long))
+    (omega arith, omega (arith, c .before .place-of .ensures .0, row-inside (p .1 .0), p .0 .bounded .long))
 
 sub-result : tie.Need-sub-result
 sub-result c = search needs
@@ -49,7 +49,7 @@ sub-find c = search needs
 find-requires : tie.Need-find-requires
 find-requires c κs =
     let p = c .before .before .before .pre in
-    (omega (arith, p .1 .1), omega (arith, c .before .place-of .ensures .0, row-inside (p .1 .0), p .0 .counts .long))
+    (omega (arith, p .1 .1), omega (arith, c .before .place-of .ensures .0, row-inside (p .1 .0), p .0 .bounded .long))
 
 sub-result-2 : tie.Need-sub-result-2
 sub-result-2 c = search needs

@@ -17,12 +17,12 @@ place-of-requires c κs =
     let p = start .pre in (p .0 .few, p .1 .1)
 
 mul-if1 : tie.Need-mul-if1
-mul-if1 c = omega (arith, c .place-of .ensures .1, begun c .pre .0 .counts .long)
+mul-if1 c = omega (arith, c .place-of .ensures .1, begun c .pre .0 .bounded .long)
 
 slice-read-if1 : tie.Need-slice-read-if1
 slice-read-if1 c =
     let at-place-of = c .before in
-    omega (arith, at-place-of .place-of .ensures .1, begun at-place-of .pre .0 .counts .long)
+    omega (arith, at-place-of .place-of .ensures .1, begun at-place-of .pre .0 .bounded .long)
 
 relax-pair-requires : tie.Need-relax-pair-requires
 relax-pair-requires c κs = begun (c .before .before .before .before) .pre

@@ -16,7 +16,7 @@ place-of-requires c κs =
 relax-requires : tie.Need-relax-requires
 relax-requires c κs =
     let start = c .before .before .before .before .before in
-    omega (arith, c .place-of .ensures .1, start .pre .counts .long)
+    omega (arith, c .place-of .ensures .1, start .pre .bounded .long)
 
 same-length : tie.Need-same-length
 same-length c = search needs
@@ -30,9 +30,9 @@ returns c =
     let start = at-if1 .before .before in
     let a = start .args in
     inside-relaxed (One (a .count)) (at-if1 .if1 .taken) (at-if2 .if2 .taken)
-    (relaxed-at _ _ (at-place-of .place-of .result) _ (start .pre .counts .long) (at-place-of .place-of .ensures .0)
+    (relaxed-at _ _ (at-place-of .place-of .result) _ (start .pre .bounded .long) (at-place-of .place-of .ensures .0)
     (rw (at-relax .relax .ensures)
-    (relaxed-one-missing (a .table .now) (at-place-of .place-of .result) (omega (arith, at-place-of .place-of .ensures .1, start .pre .counts .long)))))
+    (relaxed-one-missing (a .table .now) (at-place-of .place-of .result) (omega (arith, at-place-of .place-of .ensures .1, start .pre .bounded .long)))))
 
 returns-2 : tie.Need-returns-2
 returns-2 c = outside-relaxed (One (c .before .before .before .args .count)) (λ row column. omega arith)

@@ -16,7 +16,7 @@ relax-from-requires c κs =
     let start = c .before .before .before .before in
     let ready = start .pre .0 in
     let from = c .before .place-of .ensures .1 in
-    (omega (arith, ready .counts .long), (omega (arith, c .place-of2 .ensures .1, ready .counts .long), sum-fits ready from))
+    (omega (arith, ready .bounded .long), (omega (arith, c .place-of2 .ensures .1, ready .bounded .long), sum-fits ready from))
 
 same-length : tie.Need-same-length
 same-length c = search needs

@@ -50,7 +50,7 @@ lower-requires c κs =
     let ready = ready-relaxed (p .0) (at-loop .loop .inv .1) in
     let from = along-inside (p .1 .1) (c .before .loop-test .taken) (at-place-of2 .place-of2 .ensures .0) in
     let to = along-inside (p .1 .0) (c .before .loop-test .taken) (at-place-of .place-of .ensures .0) in
-    (omega (arith, ready .counts .long), (omega (arith, ready .counts .long), sum-fits ready from))
+    (omega (arith, ready .bounded .long), (omega (arith, ready .bounded .long), sum-fits ready from))
 
 add-j : tie.Need-add-j Inv-loop μ-loop
 add-j c = search needs

@@ -54,8 +54,8 @@ place-of-requires-2 c κs =
 relax-from-requires : tie.Need-relax-from-requires
 relax-from-requires c κs =
     let ready = begun (tested (c .before .before .before)) .pre .0 in (
-      omega (arith, c .before .place-of .ensures .1, ready .counts .long),
-      (omega (arith, c .place-of2 .ensures .1, ready .counts .long), sum-fits ready (c .before .place-of .ensures .1)),
+      omega (arith, c .before .place-of .ensures .1, ready .bounded .long),
+      (omega (arith, c .place-of2 .ensures .1, ready .bounded .long), sum-fits ready (c .before .place-of .ensures .1)),
     )
 
 place-of-requires-3 : tie.Need-place-of-requires-3
@@ -70,8 +70,8 @@ relax-from-requires-2 : tie.Need-relax-from-requires-2
 relax-from-requires-2 c κs =
     let at-relax-from = c .before .before .before .before .before in
     let ready = ready-relaxed (begun (tested (at-relax-from .before .before .before .before)) .pre .0) (at-relax-from .relax-from .ensures) in (
-      omega (arith, c .before .place-of3 .ensures .1, ready .counts .long),
-      (omega (arith, c .place-of4 .ensures .1, ready .counts .long), sum-fits ready (c .before .place-of3 .ensures .1)),
+      omega (arith, c .before .place-of3 .ensures .1, ready .bounded .long),
+      (omega (arith, c .place-of4 .ensures .1, ready .bounded .long), sum-fits ready (c .before .place-of3 .ensures .1)),
     )
 
 same-length : tie.Need-same-length
