@@ -1,3 +1,3 @@
 mod Verdicts
-mod Posing
+mod Settling
 mod GivenList

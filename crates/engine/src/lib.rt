@@ -1,7 +1,7 @@
 // The bounded verdict: is the target a product of at most n generators?
 mod judging;
 
-use words::Asked;
+use queries::Posed;
 use words::Factors;
 use words::Refusal;
 ghost use Rattle.engine.specs.Calls.{Judges};
@@ -29,8 +29,37 @@ pub fn judge(
         (record { first = now (first .entry); second = now (second .entry); witness = now (witness .entry) })
         (record { first = now (first .exit); second = now (second .exit); witness = now (witness .exit) }) ⌝ }
 {
-    match lists::of_list(bytes, ends, target) {
-        Asked::Refused(refusal) => Verdict::Refused(refusal),
-        Asked::Passed => judging::judge_list(bytes, ends, target, n, first, second, witness),
+    let mut form = [0u8; limits::WORD_LETTERS];
+    let mut letters = [0u8; limits::STATES_ROOM];
+    let mut rests = [0u16; limits::STATES_ROOM];
+    let mut children_r = [0u16; limits::STATES_ROOM];
+    let mut children_s = [0u16; limits::STATES_ROOM];
+    let mut wholes = [0u16; limits::GENERATORS];
+    match queries::pose(
+        bytes,
+        ends,
+        target,
+        &mut form,
+        &mut letters,
+        &mut rests,
+        &mut children_r,
+        &mut children_s,
+        &mut wholes,
+    ) {
+        Posed::Refused(refusal) => Verdict::Refused(refusal),
+        Posed::Ready(m, t, count) => judging::judge_form(
+            &form[..t.0 as usize],
+            m,
+            count,
+            &letters,
+            &rests,
+            &children_r,
+            &children_s,
+            &wholes[..ends.len()],
+            n,
+            first,
+            second,
+            witness,
+        ),
     }
 }

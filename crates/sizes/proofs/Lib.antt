@@ -1,2 +1,3 @@
 mod SquareFits
 pub mod Passing
+pub mod Zeroed

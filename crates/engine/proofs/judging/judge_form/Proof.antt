@@ -1,10 +1,10 @@
 -- Where the sizes pass the verdict is settled, and then both tables are zeroed. Assumes nothing.
-use mathlib.Core.Path.{refl, sym, _∙_}
+use mathlib.Core.Path.{_≡_, refl, sym, _∙_}
 use Prim.Native.Nat.{ℕ}
 use lib.ListN.{length, length-map}
 use Rattle.words.specs.Bytes.{letter, word}
 use Rattle.refusals.specs.declared.Asked.{Asked}
-use Rattle.products.specs.Product.{generators}
+use Rattle.refusals.specs.declared.Asked.the-variants.{Passed}
 use Rattle.sizes.specs.Questions.{side, ofSizes}
 use Rattle.sizes.proofs.Passing.{SizesPassed, sizes-passed}
 use Rattle.engine.specs.Calls.{Lent}
@@ -16,7 +16,7 @@ use Rattle.engine.proofs.judging.judge_form.Tie as tie
 
 -- Earlier states, each from a later one: the sizes are asked for, they have passed, the verdict is settled, the first table is zeroed.
 abbrev begun : tie.After-of-sizes → tie.Start
-begun c = c .before .before .before .before .before .before .before
+begun c = c .before .before .before .before .before .before .before .before .before .before
 
 abbrev start : tie.After-enum-told → tie.Start
 start c = begun (c .before .before)
@@ -38,20 +38,22 @@ lent s = record { first = s .args .first .now; second = s .args .second .now; wi
 abbrev answered : tie.Start → Asked
 answered s =
     let a = s .args in
-    ofSizes (length (a .letters .now)) (length (word (a .form .now))) (a .n .0)
+    ofSizes (a .m .0) (length (word (a .form .now))) (a .n .0)
     (length (a .first .now)) (length (a .second .now)) (length (a .witness .now))
 
 abbrev q : tie.Start → ℕ
-q s = side (length (s .args .letters .now)) (length (word (s .args .form .now)))
+q s = side (s .args .m .0) (length (word (s .args .form .now)))
 
 -- the sizes have passed
-asked : (c : tie.After-enum-told)
-    → SizesPassed (length (start c .args .letters .now)) (length (start c .args .form .now)) (start c .args .n .0)
-    (length (start c .args .first .now)) (length (start c .args .second .now)) (length (start c .args .witness .now))
-asked c = sizes-passed _ _ _ _ _ _ (sym (c .before .before .of-sizes .ensures) ∙ c .enum-told .given .1)
+passed : (c : tie.After-enum-told)
+    → ofSizes (start c .args .m .0) (length (start c .args .form .now)) (start c .args .n .0)
+    (length (start c .args .first .now)) (length (start c .args .second .now)) (length (start c .args .witness .now)) ≡ Passed
+passed c = sym (c .before .before .of-sizes .ensures) ∙ c .enum-told .given .1
 
-cast-m : tie.Need-cast-m
-cast-m c = search needs
+fitting : (c : tie.After-enum-told)
+    → SizesPassed (start c .args .m .0) (length (start c .args .form .now)) (start c .args .n .0)
+    (length (start c .args .first .now)) (length (start c .args .second .now)) (length (start c .args .witness .now))
+fitting c = sizes-passed _ _ _ _ _ _ (passed c)
 
 cast-t : tie.Need-cast-t
 cast-t c = search needs
@@ -66,10 +68,7 @@ enum-told : tie.Need-enum-told
 enum-told c = search needs
 
 decide-requires : tie.Need-decide-requires
-decide-requires c κs =
-    let told = c .before .before .before in
-    let p = start told .pre in
-    (p .0, (p .1 .0, sym (told .before .before .of-sizes .ensures) ∙ told .enum-told .given .1))
+decide-requires c κs = search needs
 
 zero-table-requires : tie.Need-zero-table-requires
 zero-table-requires c κs = search needs
@@ -82,7 +81,8 @@ returns c =
     let sizes = c .before .before .before in
     let s = begun sizes in
     let a = s .args in
-    judged-refused (answered s) (q s) (generators (a .letters .now) (a .ends .now)) (word (a .form .now)) (a .n .0) (lent s)
+    λ gens ready.
+    judged-refused (answered s) (q s) gens (word (a .form .now)) (a .n .0) (lent s)
     (rw (length-map (a .form .now) letter) (sym (sizes .of-sizes .ensures) ∙ c .before .refusal .given .1))
 
 same-length : tie.Need-same-length
@@ -105,14 +105,18 @@ returns-2 c =
     let s = start told in
     let a = s .args in
     let same = length-map (a .form .now) letter in
-    judged-settled (answered s) (q s) (generators (a .letters .now) (a .ends .now)) (word (a .form .now)) (a .n .0) (d .result) (lent s)
-    (record { first = d .last .1 .1 .1 .1 .0; second = d .last .1 .1 .1 .1 .1 .0; witness = d .last .1 .1 .1 .1 .1 .1 .0 })
-    (record { first = zero-first .last .0; second = zero-second .last .0; witness = d .last .1 .1 .1 .1 .1 .1 .0 })
-    (rw same (sym (told .before .before .of-sizes .ensures) ∙ told .enum-told .given .1))
-    (rw same (d .ensures))
-    (rw same (omega (arith, asked told .first-room, d .kept .1 .1 .1 .1 .0)))
+    let first = d .last .1 .1 .1 .1 .1 .1 .1 .1 .0 in
+    let second = d .last .1 .1 .1 .1 .1 .1 .1 .1 .1 .0 in
+    let witness = d .last .1 .1 .1 .1 .1 .1 .1 .1 .1 .1 .0 in
+    λ gens ready.
+    judged-settled (answered s) (q s) gens (word (a .form .now)) (a .n .0) (d .result) (lent s)
+    (record { first = first; second = second; witness = witness })
+    (record { first = zero-first .last .0; second = zero-second .last .0; witness = witness })
+    (rw same (passed told))
+    (rw same (d .ensures gens (a .m .0) ready (passed told)))
+    (rw same (omega (arith, fitting told .first-room, d .kept .1 .1 .1 .1 .1 .1 .1 .1 .0)))
     (rw same (zero-first .ensures))
-    (rw same (omega (arith, asked told .second-room, d .kept .1 .1 .1 .1 .1 .0)))
+    (rw same (omega (arith, fitting told .second-room, d .kept .1 .1 .1 .1 .1 .1 .1 .1 .1 .0)))
     (rw same (zero-second .ensures))
     refl
 
@@ -120,7 +124,6 @@ pub judge-form-spec : {M : Type 1} → statement M
 judge-form-spec =
     tie.close
     (tie.spec
-    cast-m
     cast-t
     of-sizes-requires
     enum-known-refusal

@@ -5,8 +5,7 @@ use Prim.Native.Nat.{ℕ, _≤_}
 use lib.ListN.{length, take}
 use lib.Seq.{length-take-le}
 use Rattle.limits.specs.Limits.{mostGenerators}
-use Rattle.words.specs.Word.{Word, nf}
-use Rattle.words.specs.Bytes.{word}
+use Rattle.words.specs.Word.{Word}
 use Rattle.refusals.specs.declared.Asked.the-variants.{Passed}
 use Rattle.products.specs.Product.{generators}
 use Rattle.products.proofs.Generators.{generators-length}
@@ -15,17 +14,17 @@ use Rattle.lists.specs.NormalList.{normalBytes, normalEnds}
 use Rattle.lists.specs.Reducing.{Checked}
 use Rattle.lists.proofs.Passing.{list-passed, list-alone, target-alone}
 use Rattle.lists.proofs.ReducedList.{total-short, list-too-long, list-short, list-length, list-bytes, list-ends}
-use Rattle.engine.specs.Calls.{Lent}
-use Rattle.engine.specs.Judging.{ReducedList, JudgesForm}
-use Rattle.engine.proofs.GivenList.{reduced-list, judges-too-long, judges-reduced}
+use Rattle.queries.specs.Posing.{Lent, ReducedList, PosesReduced}
+use Rattle.queries.proofs.ReducedList.{reduced-list}
+use Rattle.queries.proofs.ByQuestions.{list-refused, list-posed}
 use native.Mathlib.Omega.{arith}
 use borrow.Author.Needs.{needs}
-use Rattle.engine.proofs.judging.judge_list.Statement.{statement}
-use Rattle.engine.proofs.judging.judge_list.Tie as tie
+use Rattle.queries.proofs.posing.pose_list.Statement.{statement}
+use Rattle.queries.proofs.posing.pose_list.Tie as tie
 
--- Earlier states, each from a later one: the list is reduced, its length is known, the target is judged.
+-- Earlier states, each from a later one: the list is reduced, its length is known, all is posed.
 abbrev begun : tie.After-reduce-list → tie.Start
-begun c = c .before .before .before .before .before .before .before .before .before
+begun c = c .before .before .before .before .before .before .before .before .before .before .before .before
 
 abbrev written : tie.After-m → tie.After-reduce-list
 written c = c .before .before .before .before
@@ -33,18 +32,33 @@ written c = c .before .before .before .before
 abbrev start : tie.After-m → tie.Start
 start c = begun (written c)
 
-abbrev judged : tie.After-judge-target → tie.After-m
-judged c = c .before .before .before .before .before .before .before .before
+abbrev told : tie.After-pose-reduced → tie.After-m
+told c = c .before .before .before .before .before .before .before .before .before .before .before
 
 abbrev gens : tie.Start → List Word
 gens c = generators (c .args .bytes .now) (c .args .ends .now)
 
+-- what is lent
+abbrev lent : tie.Start → Lent
+lent c =
+    let a = c .args in
+    record {
+      form = a .form .now;
+      tree = record {
+        letters = a .letters .now;
+        rests = a .rests .now;
+        childrenR = a .children-r .now;
+        childrenS = a .children-s .now;
+        wholes = a .wholes .now;
+      };
+    }
+
 -- the list has passed questions 7 to 10
 checked : (c : tie.Start) → Checked (c .args .bytes .now) (c .args .ends .now)
-checked c = list-alone (c .args .bytes .now) (c .args .ends .now) (c .args .target .now) (c .pre)
+checked c = list-alone (c .args .bytes .now) (c .args .ends .now) (c .args .target .now) (c .pre .0)
 
 few : (c : tie.Start) → length (c .args .ends .now) ≤ mostGenerators
-few c = list-passed (c .args .bytes .now) (c .args .ends .now) (c .args .target .now) (c .pre) .few
+few c = list-passed (c .args .bytes .now) (c .args .ends .now) (c .args .target .now) (c .pre .0) .few
 
 -- no generator is too long
 none-long : (c : tie.After-m) → question11 (gens (start c)) ≡ Passed
@@ -80,32 +94,32 @@ enum-known-refusal c = search needs
 enum-known-m : tie.Need-enum-known-m
 enum-known-m c = search needs
 
-cast-letters : tie.Need-cast-letters
-cast-letters c = search needs
+cast-list-letters : tie.Need-cast-list-letters
+cast-list-letters c = search needs
 
-array-share-prefix-letters : tie.Need-array-share-prefix-letters
-array-share-prefix-letters c = room-letters (c .before .before)
+array-share-prefix-list-letters : tie.Need-array-share-prefix-list-letters
+array-share-prefix-list-letters c = room-letters (c .before .before)
 
-slice-aggregate-judge-target : tie.Need-slice-aggregate-judge-target
-slice-aggregate-judge-target c =
-    let told = c .before .before .before in
-    sym (length-take-le (told .m .given .0 .0 .0) (written told .reduce-list .last .1 .1 .0) (room-letters told))
+slice-aggregate-pose-reduced : tie.Need-slice-aggregate-pose-reduced
+slice-aggregate-pose-reduced c =
+    let t = c .before .before .before in
+    sym (length-take-le (t .m .given .0 .0 .0) (written t .reduce-list .last .1 .1 .0) (room-letters t))
 
 array-share-prefix-list-ends : tie.Need-array-share-prefix-list-ends
 array-share-prefix-list-ends c = room-ends (c .before .before .before)
 
-slice-aggregate-judge-target-2 : tie.Need-slice-aggregate-judge-target-2
-slice-aggregate-judge-target-2 c =
-    let told = c .before .before .before .before in
-    sym (length-take-le (length (start told .args .ends .now)) (written told .reduce-list .last .1 .1 .1 .0) (room-ends told))
+slice-aggregate-pose-reduced-2 : tie.Need-slice-aggregate-pose-reduced-2
+slice-aggregate-pose-reduced-2 c =
+    let t = c .before .before .before .before in
+    sym (length-take-le (length (start t .args .ends .now)) (written t .reduce-list .last .1 .1 .1 .0) (room-ends t))
 
-judge-target-requires : tie.Need-judge-target-requires
-judge-target-requires c κs =
-    let told = c .before .before .before .before .before .before .before in
-    let a = start told .args in
+pose-reduced-requires : tie.Need-pose-reduced-requires
+pose-reduced-requires c κs =
+    let t = c .before .before .before .before .before .before .before .before .before .before in
+    let a = start t .args in
     let numbers = generators-length (a .bytes .now) 0 (a .ends .now) in (
-      subst₂ ReducedList (sym (the-letters told)) (sym (the-ends told)) (reduced-list (gens (start told)) (omega (arith, numbers, few (start told))) (none-long told)),
-      target-alone (a .bytes .now) (a .ends .now) (a .target .now) (start told .pre),
+      subst₂ ReducedList (sym (the-letters t)) (sym (the-ends t)) (reduced-list (gens (start t)) (omega (arith, numbers, few (start t))) (none-long t)),
+      (target-alone (a .bytes .now) (a .ends .now) (a .target .now) (start t .pre .0), start t .pre .1),
     )
 
 returns : tie.Need-returns
@@ -113,8 +127,7 @@ returns c =
     let reduced = c .before .before .before .before .before in
     let s = begun reduced in
     let a = s .args in
-    judges-too-long (a .bytes .now) (a .ends .now) (a .target .now) (a .n .0) (s .pre)
-    (record { first = a .first .now; second = a .second .now; witness = a .witness .now })
+    list-refused (a .bytes .now) (a .ends .now) (a .target .now) (lent s)
     (list-too-long (a .bytes .now) (a .ends .now) _ _ _ _ _ (reduced .reduce-list .ensures) (checked s) refl refl (c .before .refusal .given .1))
 
 same-length : tie.Need-same-length
@@ -126,18 +139,38 @@ same-length-2 c = search needs
 same-length-3 : tie.Need-same-length-3
 same-length-3 c = search needs
 
+same-length-4 : tie.Need-same-length-4
+same-length-4 c = search needs
+
+same-length-5 : tie.Need-same-length-5
+same-length-5 c = search needs
+
+same-length-6 : tie.Need-same-length-6
+same-length-6 c = search needs
+
 returns-2 : tie.Need-returns-2
 returns-2 c =
-    let told = judged (c .before .before .before .before .before .before) in
-    let a = start told .args in
-    let t = c .before .before .before .before .before .before .judge-target in
-    let before : Lent = record { first = a .first .now; second = a .second .now; witness = a .witness .now } in
-    let after : Lent = record { first = t .last .1 .1 .1 .1 .0; second = t .last .1 .1 .1 .1 .1 .0; witness = t .last .1 .1 .1 .1 .1 .1 .0 } in
-    judges-reduced (a .bytes .now) (a .ends .now) (a .target .now) (a .n .0) (start told .pre) (t .result) before after (none-long told)
-    (subst₂ (λ (letters ends : List ℕ). JudgesForm letters ends (nf (word (a .target .now))) (a .n .0) (t .result) before after) (the-letters told) (the-ends told) (t .ensures))
+    let posed = c .before .before .before .before .before .before .before .before .before .before .before .before in
+    let p = posed .pose-reduced in
+    let t = told posed in
+    let a = start t .args in
+    let before : Lent = lent (start t) in
+    let after : Lent =
+    record {
+      form = p .last .1 .1 .1 .0;
+      tree = record {
+        letters = p .last .1 .1 .1 .1 .0;
+        rests = p .last .1 .1 .1 .1 .1 .0;
+        childrenR = p .last .1 .1 .1 .1 .1 .1 .0;
+        childrenS = p .last .1 .1 .1 .1 .1 .1 .1 .0;
+        wholes = p .last .1 .1 .1 .1 .1 .1 .1 .1 .0;
+      };
+    } in
+    list-posed (a .bytes .now) (a .ends .now) (a .target .now) (p .result) before after (none-long t)
+    (subst₂ (λ (letters ends : List ℕ). PosesReduced letters ends (a .target .now) (p .result) before after) (the-letters t) (the-ends t) (p .ensures))
 
-pub judge-list-spec : {M : Type 1} → statement M
-judge-list-spec =
+pub pose-list-spec : {M : Type 1} → statement M
+pose-list-spec =
     tie.close
     (tie.spec
     slice-aggregate-reduce-list
@@ -145,14 +178,17 @@ judge-list-spec =
     reduce-list-requires
     enum-known-refusal
     enum-known-m
-    cast-letters
-    array-share-prefix-letters
-    slice-aggregate-judge-target
+    cast-list-letters
+    array-share-prefix-list-letters
+    slice-aggregate-pose-reduced
     array-share-prefix-list-ends
-    slice-aggregate-judge-target-2
-    judge-target-requires
+    slice-aggregate-pose-reduced-2
+    pose-reduced-requires
     returns
     same-length
     same-length-2
     same-length-3
+    same-length-4
+    same-length-5
+    same-length-6
     returns-2)

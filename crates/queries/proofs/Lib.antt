@@ -1,0 +1,3 @@
+pub mod ReducedList
+mod ByQuestions
+pub mod PosedReady

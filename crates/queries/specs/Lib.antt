@@ -1,0 +1,2 @@
+pub mod Posing
+pub mod Ready
