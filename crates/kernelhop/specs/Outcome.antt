@@ -13,6 +13,8 @@ use Rattle.matrices.specs.declared.Turned.{Turned}
 use Rattle.matrices.specs.declared.Turned.the-variants.{Into, Refused as Turned·Refused}
 use Rattle.engine.specs.declared.Verdict.{Verdict}
 use Rattle.engine.specs.declared.Verdict.the-variants.{Member, None, Refused}
+use Rattle.reach.specs.declared.Reached.{Reached}
+use Rattle.reach.specs.declared.Reached.the-variants.{Yes, No, Refused as Reached·Refused}
 use Rattle.answers.specs.declared.Answer.{Answer}
 use Rattle.answers.specs.declared.Answer.the-variants.{Member as Answer·Member, None as Answer·None, Refused as Answer·Refused}
 use Rattle.kernelhop.specs.declared.Outcome.{Outcome}
@@ -52,6 +54,12 @@ abbrev pub ofVerdict : Factors → Verdict → Outcome
 ofVerdict n (Member count) = yes (count .0)
 ofVerdict n None = no (n .0)
 ofVerdict n (Refused refusal) = ofRefusal refusal
+
+-- reachable: 1; not reachable: as none, with no n
+abbrev pub ofReached : Reached → Outcome
+ofReached Yes = yes 1
+ofReached No = no 0
+ofReached (Reached·Refused refusal) = ofRefusal refusal
 
 abbrev pub ofAnswer : Answer → Outcome
 ofAnswer (Answer·Member count) = yes (count .0)

@@ -13,13 +13,15 @@ ghost use Rattle.matrices.specs.Calls.{TurnsWord, TurnsMatrix};
 ghost use Rattle.matrices.specs.declared.Turned.{Turned};
 ghost use Rattle.engine.specs.Calls.{Judges};
 ghost use Rattle.engine.specs.declared.Verdict.{Verdict};
+ghost use Rattle.reach.specs.Calls.{Reaches};
+ghost use Rattle.reach.specs.declared.Reached.{Reached};
 ghost use Rattle.answers.specs.declared.Answer.{Answer};
 ghost use Rattle.cards.specs.Calls.{AnswersCard};
 ghost use Rattle.kernelhop.specs.Release.{release};
-ghost use Rattle.kernelhop.specs.Outcome.{ofWritten, ofTested, ofTurned, entriesOr, ofVerdict, ofAnswer};
+ghost use Rattle.kernelhop.specs.Outcome.{ofWritten, ofTested, ofTurned, entriesOr, ofVerdict, ofReached, ofAnswer};
 
-// An answer: 0, and the length written, 1 for a normal word and 0 for another, the count of a member, or 0 for a matrix. None: 255, and n. A refusal: the
-// question's number, from 1 to 16, and its place.
+// An answer: 0, and the length written, 1 for a normal word and 0 for another, the count of a member, 1 for a target that is reachable, or 0 for a matrix.
+// None: 255, and n; not reachable: 255, and 0. A refusal: the question's number, from 1 to 16, and its place.
 #[repr(C)]
 pub struct Outcome {
     pub number: u8,
@@ -29,9 +31,9 @@ pub struct Outcome {
 // Which release this library is, as one number (`release` of specs/). It has its one home here, in the promise and in the code: whoever else needs it asks.
 #[no_mangle]
 pub extern "C" fn kernelhop_version() -> u32
-    ensures { λ r. ⌜ r ≡ release 1 1 0 ⌝ }
+    ensures { λ r. ⌜ r ≡ release 1 2 0 ⌝ }
 {
-    10_100
+    10_200
 }
 
 // The same as words::reduce.
@@ -115,6 +117,24 @@ pub extern "C" fn kernelhop_judge(
         Factors(n),
         engine::judge(bytes, ends, target, Factors(n), first, second, witness),
     )
+}
+
+// The same as reach::reachable.
+#[no_mangle]
+pub extern "C" fn kernelhop_reachable(
+    bytes: &[u8],
+    ends: &[u16],
+    target: &[u8],
+    first: &mut [u16],
+    second: &mut [u16],
+) -> Outcome
+    ensures { λ r. ⌜ ((v : Reached)
+        × Reaches (now (bytes .entry)) (now (ends .entry)) (now (target .entry)) v
+        (record { first = now (first .entry); second = now (second .entry) })
+        (record { first = now (first .exit); second = now (second .exit) })
+        × (r ≡ ofReached v)) ⌝ }
+{
+    telling::reached(reach::reachable(bytes, ends, target, first, second))
 }
 
 // The same as cards::answer_card.

@@ -2,15 +2,19 @@
 use crate::Outcome;
 use answers::Answer;
 use engine::Verdict;
+use reach::Reached;
 use words::Factors;
 use words::Refusal;
 use words::Tested;
 use words::Written;
 ghost use mathlib.Core.Path.{_≡_};
-ghost use Rattle.kernelhop.specs.Outcome.{ofRefusal, ofWritten, ofTested, ofVerdict, ofAnswer};
+ghost use Rattle.kernelhop.specs.Outcome.{ofRefusal, ofWritten, ofTested, ofVerdict, ofReached, ofAnswer};
 
-// The number that stands for none: no question has it.
+// The number that stands for none, and for a no: no question has it.
 const NONE: u8 = 255;
+
+// What is told for n where there is none.
+const NO_N: usize = 0;
 
 pub(crate) fn refusal(refusal: Refusal) -> Outcome
     ensures { λ r. ⌜ r ≡ ofRefusal refusal ⌝ }
@@ -62,6 +66,22 @@ pub(crate) fn verdict(n: Factors, answer: Verdict) -> Outcome
             value: n.0 as usize,
         },
         Verdict::Refused(why) => refusal(why),
+    }
+}
+
+pub(crate) fn reached(answer: Reached) -> Outcome
+    ensures { λ r. ⌜ r ≡ ofReached answer ⌝ }
+{
+    match answer {
+        Reached::Yes => Outcome {
+            number: 0,
+            value: 1,
+        },
+        Reached::No => Outcome {
+            number: NONE,
+            value: NO_N,
+        },
+        Reached::Refused(why) => refusal(why),
     }
 }
 

@@ -1,0 +1,4 @@
+mod RoomPassed
+mod LastEntry
+mod AfterQuestions
+mod GivenList
