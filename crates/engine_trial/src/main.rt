@@ -47,9 +47,10 @@ fn judge(
     printing::call(bytes, ends, target, n);
     let verdict = engine::judge(bytes, ends, target, Factors(n), first, second, witness);
     printing::verdict(verdict);
-    printing::table(first);
-    printing::table(second);
-    printing::witness(witness);
+    showing::lent::table(first);
+    showing::lent::table(second);
+    showing::lent::witness(witness);
+    io::write_all(1, b"\n");
     verdict
 }
 

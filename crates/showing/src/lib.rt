@@ -1,4 +1,7 @@
-// What the programs print with: the line of an answer, a word, and a refusal. It all goes to standard output by `libc::write`, whose contract is assumed.
+// What the programs print with: the line of an answer, a word, a number, a list, a refusal, and what lent slices hold. It all goes to standard output by `libc::write`, whose contract is assumed.
+pub mod lent;
+pub mod lists;
+
 use answers::Answer;
 use answers::LINE_BYTES;
 use answers::Lined;
@@ -48,4 +51,10 @@ pub fn refusal(refusal: Refusal) {
     io::print_decimal(1, refusals::number(refusal) as u64);
     io::write_all(1, b" ");
     io::print_decimal(1, refusals::place(refusal) as u64);
+}
+
+// A number behind a space.
+pub fn number(x: u16) {
+    io::write_all(1, b" ");
+    io::print_decimal(1, x as u64);
 }

@@ -1,14 +1,19 @@
 -- Wrong answers, each refused by the definition of a right verdict: whatever program gives one of them, it does not meet the contract of
--- `engine::judge`. Assumes nothing.
-use mathlib.Core.Path.{refl}
+-- `engine::judge`, or of `reach::reachable`. Assumes nothing.
+use mathlib.Core.Path.{_≡_, refl, ap, subst}
 use mathlib.Core.List.{List, [], _∷_}
-use Prim.Native.Nat.{ℕ, _<_}
+use Prim.Native.Nat.{ℕ, zero, suc, _*_, _<_}
+use native.Mathlib.Nat.{not-suc-le-zero, le-of-suc-le-suc}
 use native.Mathlib.Omega.{arith}
-use Rattle.words.specs.Word.{R, S, Word, nf}
-use Rattle.words.proofs.NormalForm.{equal-of-nf}
-use Rattle.products.specs.Product.{letters, measure, Reaches, Rival, NoneRight, MemberRight, smaller}
+use lib.ListN.{length}
+use Rattle.words.specs.Word.{R, S, Word, Equal, nf}
+use Rattle.words.proofs.Reduced.{Reduced}
+use Rattle.words.proofs.NormalForm.{equal-path, equal-of-nf}
+use Rattle.products.specs.Product.{Series, letters, measure, Reaches, Rival, NoneRight, MemberRight, YesRight, NoRight, smaller}
+use Rattle.products.proofs.FirstLetter.{equal-reduced}
+use Rattle.products.proofs.Unbounded.{yes-not-no}
 use Rattle.worked.proofs.Trying.{misses, missesBefore, none-by-trying, first-by-trying}
-use Rattle.worked.proofs.Values.{least-above, P9, list10, list11, P11}
+use Rattle.worked.proofs.Values.{least-above, P9, list10, list11, P11, P8-yes, P9-no, P11-yes}
 
 -- factors beside which a shorter rival reaches the target
 shorter-refused : {gens : List Word} {target : Word} {n count : ℕ} (factors r : List ℕ) → Rival gens n r → Reaches gens r target
@@ -86,3 +91,57 @@ overlooked-refused nobody = nobody (0 ∷ 1 ∷ 2 ∷ []) (P11 .rival) (P11 .rea
 -- a member of an empty list, whatever its factors and its count
 pub always-member-refused : (factors : List ℕ) (count : ℕ) → MemberRight [] (R ∷ []) 1000 factors count → ⊥
 always-member-refused factors count member = P9 factors (member .rival) (member .reaches)
+
+-- ---- verdicts without a bound
+
+-- no, though three S's from three factors cancel
+pub overlooked-no-refused : NoRight list11 (R ∷ []) → ⊥
+overlooked-no-refused = yes-not-no list11 (R ∷ []) P11-yes
+
+-- no for an empty list and an empty target
+pub empty-no-refused : NoRight [] [] → ⊥
+empty-no-refused = yes-not-no [] [] P8-yes
+
+-- yes for an empty list, whatever series it is said for
+pub always-yes-refused : YesRight [] (R ∷ []) → ⊥
+always-yes-refused yes-right = yes-not-no [] (R ∷ []) yes-right P9-no
+
+-- no where only series of at most n factors were tried, whatever n is: T to the power n + 1 is no product of at most n times T, and is one of n + 1 times
+abbrev pub powers : ℕ → Word
+powers zero = []
+powers (suc k) = S ∷ R ∷ powers k
+
+powers-reduced : (k : ℕ) → Reduced (powers k)
+powers-reduced zero = tt
+powers-reduced (suc zero) = tt
+powers-reduced (suc (suc k)) = powers-reduced (suc k)
+
+powers-length : (k : ℕ) → length (powers k) ≡ 2 * k
+powers-length zero = refl
+powers-length (suc k) = omega (arith, powers-length k)
+
+powers-letters : (r : List ℕ) → Series once r → letters once r ≡ powers (length r)
+powers-letters [] series = refl
+powers-letters (zero ∷ r) series = ap (λ (w : Word). S ∷ R ∷ w) (powers-letters r (series .1))
+powers-letters (suc i ∷ r) series = absurd (not-suc-le-zero (le-of-suc-le-suc (series .0)))
+
+powers-none : (n : ℕ) → NoneRight once (powers (suc n)) n
+powers-none n r rival reaches =
+    let same : powers (length r) ≡ powers (suc n) = equal-reduced (powers-reduced (length r)) (powers-reduced (suc n)) (subst (λ (w : Word). Equal w (powers (suc n))) (powers-letters r (rival .series)) reaches) in
+    omega (arith, ap length same, powers-length (length r), powers-length (suc n), rival .within)
+
+abbrev times : ℕ → List ℕ
+times zero = []
+times (suc k) = 0 ∷ times k
+
+times-series : (k : ℕ) → Series once (times k)
+times-series zero = tt
+times-series (suc k) = (omega arith, times-series k)
+
+times-letters : (k : ℕ) → letters once (times k) ≡ powers k
+times-letters zero = refl
+times-letters (suc k) = ap (λ (w : Word). S ∷ R ∷ w) (times-letters k)
+
+pub stopped-no-refused : (n : ℕ) → NoneRight once (powers (suc n)) n × (NoRight once (powers (suc n)) → ⊥)
+stopped-no-refused n =
+    (powers-none n, yes-not-no once (powers (suc n)) (times (suc n), times-series (suc n), tt, equal-path (times-letters (suc n))))

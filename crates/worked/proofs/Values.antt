@@ -1,9 +1,9 @@
--- Document 01's worked values P1 to P12, in one list. Assumes nothing.
+-- Document 01's worked values P1 to P12, in one list, and what the unbounded verdict says of the lists of P8 to P12. Assumes nothing.
 use mathlib.Core.Logic.{inr}
 use mathlib.Core.Path.{_≡_, refl}
 use mathlib.Core.List.{List, [], _∷_}
 use Prim.Native.Nat.{ℕ, suc, _≤_, zero-le}
-use native.Mathlib.Nat.{lt-of-not-le}
+use native.Mathlib.Nat.{lt-of-not-le, not-suc-le-zero}
 use native.Mathlib.Decide.{decLe}
 use native.Mathlib.Omega.{arith}
 use lib.IntN.{pos, negsuc}
@@ -11,8 +11,9 @@ use lib.ListN.{length}
 use Rattle.words.specs.Word.{R, S, Word, sss, none, nf, inverse}
 use Rattle.words.proofs.NormalForm.{nf-normal, equal-of-nf}
 use Rattle.unimodular.specs.Matrix.{signed, matrixOf, NormalFormOf}
-use Rattle.products.specs.Product.{letters, Reaches, Rival, NoneRight, MemberRight}
+use Rattle.products.specs.Product.{letters, Reaches, Rival, NoneRight, MemberRight, YesRight, NoRight}
 use Rattle.products.proofs.Order.{before-nothing}
+use Rattle.products.proofs.Unbounded.{member-yes}
 use Rattle.worked.proofs.Trying.{misses, missesBefore, none-by-trying, first-by-trying}
 
 -- P1: "RR and SSS give the empty word."
@@ -129,3 +130,20 @@ P12 =
 pub P12-not-1 : Reaches list12 (0 ∷ []) [] × (MemberRight list12 [] 5 (0 ∷ []) 1 → ⊥)
 P12-not-1 =
     (sss [] [], λ m. let below = m .least [] (record { series = tt; counted = tt; within = zero-le }) none in omega arith)
+
+-- The same lists and targets without a bound. Of an empty list no series but the empty one is a product.
+pub P8-yes : YesRight [] []
+P8-yes = member-yes [] [] 0 [] 0 P8
+
+pub P9-no : NoRight [] (R ∷ [])
+P9-no [] series counted reaches = P9 [] (record { series = tt; counted = tt; within = zero-le }) reaches
+P9-no (i ∷ r) series counted reaches = absurd (not-suc-le-zero (series .0))
+
+pub P10-yes : YesRight list10 (R ∷ [])
+P10-yes = member-yes list10 (R ∷ []) 3 (0 ∷ 1 ∷ 1 ∷ []) 3 P10
+
+pub P11-yes : YesRight list11 (R ∷ [])
+P11-yes = member-yes list11 (R ∷ []) 3 (0 ∷ 1 ∷ 2 ∷ []) 3 P11
+
+pub P12-yes : YesRight list12 []
+P12-yes = member-yes list12 [] 5 [] 0 P12

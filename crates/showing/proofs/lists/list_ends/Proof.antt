@@ -3,8 +3,8 @@ use mathlib.Core.Path.{sym}
 use lib.Seq.{length-take-le}
 use native.Mathlib.Omega.{arith}
 use borrow.Author.Needs.{needs}
-use Rattle.engine_trial.proofs.printing.list_ends.Statement.{statement}
-use Rattle.engine_trial.proofs.printing.list_ends.Tie as tie
+use Rattle.showing.proofs.lists.list_ends.Statement.{statement}
+use Rattle.showing.proofs.lists.list_ends.Tie as tie
 
 numbers-requires : tie.Need-numbers-requires
 numbers-requires c κs = search needs

@@ -3,9 +3,9 @@ use mathlib.Core.Path.{refl}
 use Prim.Native.Nat.{_-_}
 use lib.ListN.{length}
 use borrow.Author.Needs.{needs}
-use Rattle.engine_trial.proofs.Counting.{Counted, counted-none, counted-more, counted-all}
-use Rattle.engine_trial.proofs.printing.count_entries.Statement.{statement}
-use Rattle.engine_trial.proofs.printing.count_entries.Tie as tie
+use Rattle.showing.proofs.Counting.{Counted, counted-none, counted-more, counted-all}
+use Rattle.showing.proofs.lent.count_entries.Statement.{statement}
+use Rattle.showing.proofs.lent.count_entries.Tie as tie
 
 abbrev Inv-loop : tie.InvT-loop
 Inv-loop entries value count₀ i₀ count i = Counted value entries count i

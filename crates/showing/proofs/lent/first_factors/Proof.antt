@@ -3,8 +3,8 @@ use mathlib.Core.Path.{sym}
 use lib.Seq.{length-take-le}
 use native.Mathlib.Omega.{arith}
 use borrow.Author.Needs.{needs}
-use Rattle.engine_trial.proofs.printing.first_factors.Statement.{statement}
-use Rattle.engine_trial.proofs.printing.first_factors.Tie as tie
+use Rattle.showing.proofs.lent.first_factors.Statement.{statement}
+use Rattle.showing.proofs.lent.first_factors.Tie as tie
 
 factors-requires : tie.Need-factors-requires
 factors-requires c κs = search needs

@@ -2,9 +2,9 @@
 use Prim.Native.Nat.{_-_}
 use lib.ListN.{length}
 use borrow.Author.Needs.{needs}
-use Rattle.engine_trial.proofs.Counting.{Counted, counted-none, counted-more, counted-all}
-use Rattle.engine_trial.proofs.printing.count_bytes.Statement.{statement}
-use Rattle.engine_trial.proofs.printing.count_bytes.Tie as tie
+use Rattle.showing.proofs.Counting.{Counted, counted-none, counted-more, counted-all}
+use Rattle.showing.proofs.lent.count_bytes.Statement.{statement}
+use Rattle.showing.proofs.lent.count_bytes.Tie as tie
 
 abbrev Inv-loop : tie.InvT-loop
 Inv-loop bytes value count₀ i₀ count i = Counted value bytes count i

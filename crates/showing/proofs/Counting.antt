@@ -10,7 +10,7 @@ use lib.Dec.{eqb}
 use lib.ListN.{length, getD, drop, drop-of-length-le}
 use lib.Seq.{drop-cons}
 use Rattle.refusals.specs.Telling.{pick}
-use Rattle.engine_trial.specs.Counting.{countOf}
+use Rattle.showing.specs.Counting.{countOf}
 
 -- The first i entries are counted.
 pub record Counted (value : ℕ) (l : List ℕ) (count i : ℕ) : Type 0 where

@@ -2,8 +2,8 @@
 use mathlib.Core.Path.{refl}
 use borrow.Author.Needs.{needs}
 use borrow.Author.Tests.{eq-eqb, ne-eqb}
-use Rattle.engine_trial.proofs.printing.one_more.Statement.{statement}
-use Rattle.engine_trial.proofs.printing.one_more.Tie as tie
+use Rattle.showing.proofs.lent.one_more.Statement.{statement}
+use Rattle.showing.proofs.lent.one_more.Tie as tie
 
 add-result : tie.Need-add-result
 add-result c = search needs
