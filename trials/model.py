@@ -1,18 +1,22 @@
-"""A model of document 01, "Bounded products in the modular group", and of 02's change requests so far (M-100), written from their sentences alone and
-sharing nothing with the engine.
+"""A model of document 01, "Bounded products in the modular group", and of 02's change requests so far (M-100, M-101), written from their sentences alone
+and sharing nothing with the engine.
 
 It is slow and plain on purpose. A word is reduced by erasing, a matrix has unlimited integers, the word of a matrix is read off the
-Stern-Brocot tree, and a verdict comes from a walk of the group, product by product. Words are bytes, a matrix (a b; c d) is (a, b, c, d).
+Stern-Brocot tree, and a verdict comes from a walk of the group, product by product; one without a bound comes from an automaton that reads the products.
+Words are bytes, a matrix (a b; c d) is (a, b, c, d).
 
     normal_form, inverse, matrix, powers    the elements: words, matrices, and the word of a matrix
     first_series                            the verdict's mathematics: a walk, level by level, that keeps the first series of each element
+    is_product                              the same without a bound: an automaton of loops, closed under the rules
     ask, ask_each                           the questions at the door; Refused is the first no
-    reduced, inverted, matrix_of_word, word_of_matrix, verdict, list_verdict
+    reduced, inverted, matrix_of_word, word_of_matrix, verdict, list_verdict, reachable, list_reachable
                                             the calls, with their questions in rising order
     line                                    what the program prints for a card
 """
 
+import functools
 import itertools
+import operator
 import re
 
 # ---- words
@@ -98,7 +102,7 @@ BY_MATRICES = (matrix, lambda m, n: signed(product(m, n)))
 
 
 class TooLarge(Exception):
-    """The walk would visit more elements than it may."""
+    """The walk would visit more elements than it may, or the automaton have more empty moves."""
 
 
 def first_series(generators, target, n, group=BY_RULES, cap=200_000):
@@ -129,6 +133,61 @@ def first_series(generators, target, n, group=BY_RULES, cap=200_000):
                 raise TooLarge(f"more than {cap} elements")
         level = longer
     return None
+
+
+def loops(generators):
+    """Of each letter the moves from state to state: one loop at state 0, the hub, for each generator, spelled by its letters as they are given. And the number
+    of states."""
+    moves, states = {82: {}, 83: {}}, 1
+    for generator in generators:
+        here = 0
+        for place, letter in enumerate(generator, start=1):
+            there = states if place < len(generator) else 0
+            moves[letter].setdefault(here, []).append(there)
+            here, states = there, max(states, there + 1)
+    return moves, states
+
+
+def members(states):
+    """The states whose bits are set."""
+    while states:
+        yield (states & -states).bit_length() - 1
+        states &= states - 1
+
+
+def union(sets):
+    return functools.reduce(operator.or_, sets, 0)
+
+
+def is_product(generators, target, cap=200_000):
+    """Is the target the product of some series, however long?
+
+    Read from hub to hub, the loops spell the series' letters, one behind the other. Wherever RR or SSS can be read from p to q, with empty moves anywhere, an
+    empty move from p to q is added, and one for each two empty moves in a row, until nothing changes. An empty move stands for letters that vanish, so a word
+    that is read from hub to hub equals a product. And a series' letters can still be read from hub to hub after each RR and each SSS that is erased from
+    them, down to their normal form. A set of states is a number with their bits set.
+    """
+    moves, states = loops(generators)
+    empty = [1 << state for state in range(states)]
+
+    def read(here, word):
+        """Where the word leads from these states, with the empty moves so far behind each letter."""
+        for letter in word:
+            here = union(empty[there] for state in members(here) for there in moves[letter].get(state, ()))
+        return here
+
+    before = None
+    while empty != before:
+        if sum(map(int.bit_count, empty)) > cap:
+            raise TooLarge(f"more than {cap} empty moves")
+        before = list(empty)
+        # What vanishes within something that vanishes begins at a later state of a loop: from the last to the first, few rounds are needed.
+        for state in reversed(range(states)):
+            empty[state] |= read(empty[state], b"RR") | read(empty[state], b"SSS")
+        for between, state in itertools.product(range(states), repeat=2):
+            if empty[state] >> between & 1:
+                empty[state] |= empty[between]
+    return read(empty[0], normal_form(target)) & 1 == 1
 
 
 # ---- the questions at the door
@@ -208,8 +267,8 @@ def side(generators, target):
     return sum(len(normal_form(generator)) for generator in generators) + 2 * len(normal_form(target)) + 1
 
 
-def verdict(generators, target, n, tables, room, cap=200_000):
-    """The first of the least series, None for none. The target is letters or a matrix; `tables` are the tables' two lengths."""
+def asked_of_list(generators, target):
+    """The questions about a list and its target, which is letters or a matrix; the target's normal form."""
     letters = b"".join(generators)
     is_matrix = isinstance(target, tuple)
     if is_matrix:
@@ -221,20 +280,45 @@ def verdict(generators, target, n, tables, room, cap=200_000):
     ask_each(11, (length <= 80 and total <= 320 for length, total in zip(lengths, itertools.accumulate(lengths))))
     word = short_form(target) if is_matrix else normal_form(target)
     ask(12, len(word) <= 80)
+    return word
+
+
+def ask_tables(tables, generators, target):
+    ask(15, min(tables) >= side(generators, target) ** 2)
+
+
+def verdict(generators, target, n, tables, room, cap=200_000):
+    """The first of the least series, None for none. `tables` are the tables' two lengths."""
+    word = asked_of_list(generators, target)
     ask(13, n <= 1000)
     ask(14, room >= n)
-    ask(15, min(tables) >= side(generators, word) ** 2)
+    ask_tables(tables, generators, word)
     return first_series(generators, word, n, cap=cap)
 
 
-def list_verdict(letters, ends, target, n, tables, room, cap=200_000):
-    """The verdict on a list of letters with its ends: generator i runs from the end before it, or 0, up to its own end."""
+def reachable(generators, target, tables, cap=200_000):
+    """The verdict without a bound: True or False."""
+    word = asked_of_list(generators, target)
+    ask_tables(tables, generators, word)
+    return is_product(generators, word, cap)
+
+
+def listed(letters, ends, target):
+    """The generators of a list of letters with its ends: generator i runs from the end before it, or 0, up to its own end."""
     ask(7, len(ends) <= 64)
     ask(8, len(letters) <= 4096 and len(target) <= 4096)
     starts = [0, *ends][: len(ends)]
     ask_each(9, (start <= end for start, end in zip(starts, ends)))
     ask(9, len(letters) == (ends[-1] if ends else 0), place=len(ends))
-    return verdict([letters[start:end] for start, end in zip(starts, ends)], target, n, tables, room, cap)
+    return [letters[start:end] for start, end in zip(starts, ends)]
+
+
+def list_verdict(letters, ends, target, n, tables, room, cap=200_000):
+    return verdict(listed(letters, ends, target), target, n, tables, room, cap)
+
+
+def list_reachable(letters, ends, target, tables, cap=200_000):
+    return reachable(listed(letters, ends, target), target, tables, cap)
 
 
 # ---- the query card and its program

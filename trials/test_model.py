@@ -1,6 +1,6 @@
 #!/usr/bin/env python3
 """Tests of trials/model.py: document 01's worked values P1 to P12 and edges, the laws that its ways of computing rest on, the first of the least series,
-and each question."""
+verdicts without a bound, and each question."""
 
 import itertools
 import os
@@ -28,6 +28,11 @@ def power_of_t(k):
 def judged(generators, target, n):
     """The verdict, with tables and a witness that are large enough."""
     return model.verdict(generators, target, n, tables=(231361, 231361), room=1000)
+
+
+def reached(generators, target):
+    """The verdict without a bound, with tables that are large enough."""
+    return model.reachable(generators, target, tables=(231361, 231361))
 
 
 def all_least(generators, target, n):
@@ -177,6 +182,84 @@ class First(unittest.TestCase):
             self.assert_firsts(chance.choices(choices, k=chance.randrange(4)), [chance.choice(choices)], chance.randrange(6))
 
 
+class WithoutABound(unittest.TestCase):
+    def assert_reached(self, answer, generators, *targets):
+        for target in targets:
+            self.assertIs(reached(generators, target), answer, (generators, target))
+
+    def test_worked(self):
+        self.assert_reached(True, [], b"")
+        self.assert_reached(False, [], b"R")
+        self.assert_reached(True, [b"RS", b"S"], b"R")
+        self.assert_reached(True, [b"RSRS", b"S", b"SRSS"], b"R")
+        self.assert_reached(True, [b"SSS"], b"")
+
+    def test_powers_of_t(self):
+        self.assert_reached(True, [b"SR"], b"", b"SR", b"SRSR", power_of_t(40))
+        self.assert_reached(False, [b"SR"], b"R", b"S", b"RSS", b"SSR", power_of_t(-26))
+        self.assert_reached(True, [b"SR", b"RSS"], *map(power_of_t, range(-26, 41)))
+        self.assert_reached(False, [b"SR", b"RSS"], b"R", b"S", b"SSR")
+        self.assert_reached(True, [power_of_t(4), power_of_t(6), power_of_t(-10)], *map(power_of_t, range(-26, 41, 2)))
+        self.assert_reached(False, [power_of_t(4), power_of_t(6), power_of_t(-10)], *map(power_of_t, range(-25, 40, 2)))
+        self.assert_reached(False, [power_of_t(4), power_of_t(6)], b"RSS", b"SR", power_of_t(2), power_of_t(7))
+
+    def test_letters_that_vanish_within_a_generator(self):
+        self.assert_reached(True, [b"", b"RR", b"SSSS"], b"", b"SS", b"SRRS")
+        self.assert_reached(False, [b"", b"RR", b"SSSS"], b"R", b"SR")
+        self.assert_reached(True, [b"SRRSSR", b"SSSSS"], b"R", b"S", b"RSSRS")
+
+    def test_a_target_as_a_matrix(self):
+        self.assert_reached(True, [b"SR"], (1, 40, 0, 1), (-1, -7, 0, -1))
+        self.assert_reached(False, [b"SR"], (1, -1, 0, 1), U)
+
+    def test_beyond_every_bound(self):
+        """T to the 37th and the -26th, and T to the -1st before U to the 25th and the -34th: 1,217 factors make U. Without the last no series does, and
+        without both of U's none makes more than powers of T."""
+        list_of_u = [power_of_t(37), power_of_t(-26), b"RSS" + b"SSR" * 25, b"RSS" + b"RS" * 34]
+        self.assert_reached(True, list_of_u, b"SSR")
+        self.assert_reached(False, list_of_u[:3], b"SSR")
+        self.assert_reached(False, list_of_u[:2], b"SSR")
+        self.assert_reached(True, list_of_u[:2], b"SR", b"RSS")
+
+    def test_a_finite_group(self):
+        """In the group of order 3 that S makes, and in its conjugate by R, a series that reaches is not longer than 2."""
+        for by in (b"", b"R"):
+            for target in words(6):
+                inside = model.normal_form(by + target + by) in (b"", b"S", b"SS")
+                self.assert_reached(inside, [by + b"S" + by], target)
+
+    def test_the_bounded_verdict_agrees(self):
+        """For lists and targets so small that 8 factors are enough wherever any number is; and on random ones a series up to the bound is one."""
+        for count in range(3):
+            for generators in itertools.product(words(3), repeat=count):
+                for target in words(3):
+                    self.assert_reached(judged(generators, target, 8) is not None, generators, target)
+        chance = random.Random(2)
+        choices = words(5)
+        for _ in range(400):
+            generators, target = chance.choices(choices, k=chance.randrange(4)), chance.choice(choices)
+            if judged(generators, target, 5) is not None:
+                self.assert_reached(True, generators, target)
+
+    def test_products_and_what_stays(self):
+        """A product of many factors is reached, more generators reach no less, and a list that is conjugated with its target reaches the same."""
+        chance = random.Random(3)
+        choices = words(4)
+        for _ in range(200):
+            generators = chance.choices(choices, k=chance.randint(1, 3))
+            product = model.normal_form(b"".join(chance.choices(generators, k=chance.randint(0, 20))))
+            self.assertTrue(model.is_product(generators, product))
+            target, more, by = (chance.choice(choices) for _ in range(3))
+            answer = model.is_product(generators, target)
+            self.assertTrue(model.is_product([*generators, more], target) or not answer)
+            conjugated = [model.inverse(by) + word + by for word in [*generators, target]]
+            self.assertEqual(model.is_product(conjugated[:-1], conjugated[-1]), answer)
+
+    def test_an_automaton_that_is_too_large(self):
+        with self.assertRaises(model.TooLarge):
+            model.is_product([b"R" * 200], b"R", cap=1000)
+
+
 class Questions(Asking):
     def test_words(self):
         for call, factor in ((model.reduced, 1), (model.inverted, 2)):
@@ -225,6 +308,25 @@ class Questions(Asking):
         self.assert_refused(13, 0, asked, [b"SR"], b"R")
         self.assert_refused(14, 0, asked, [b"SR"], b"R", 1000, (0, 0), 999)
         self.assert_refused(15, 0, asked, [b"SR"], b"R", 1000, (0, 0), 1000)
+
+    def test_reachable(self):
+        def asked(generators, target, tables=(0, 0)):
+            return model.reachable(generators, target, tables)
+
+        long = b"RSS" * 27
+        self.assert_refused(7, 0, asked, [b"X"] * 65, b"X" * 4097)
+        self.assert_refused(8, 0, asked, [b"X" * 4096, b"X"], b"X")
+        self.assert_refused(8, 0, asked, [b"X"], b"X" * 4097)
+        self.assert_refused(10, 82, asked, [long, b"S"], b"X")
+        self.assert_refused(11, 1, asked, [b"", long], long)
+        self.assert_refused(12, 0, asked, [b"SR"], long)
+        self.assert_refused(15, 0, asked, [b"SR"], b"SRSRSR", (224, 225))
+        self.assert_refused(15, 0, asked, [b"SR"], b"SRSRSR", (225, 224))
+        self.assertTrue(asked([b"SR"], b"SRSRSR", (225, 225)))
+        self.assert_refused(9, 1, model.list_reachable, b"RSX", [2, 1, 3], b"X", (0, 0))
+        self.assert_refused(9, 2, model.list_reachable, b"RSX", [1, 2], b"X", (0, 0))
+        self.assert_refused(7, 0, model.list_reachable, b"RSX", [1] * 65, b"X", (0, 0))
+        self.assertTrue(model.list_reachable(b"RSS", [2, 3], b"R", (36, 36)))
 
     def test_cards(self):
         matrix = bytes([4]) + b"".join(entry.to_bytes(8, "little", signed=True) for entry in (1, 2**31, 2**31, 1))

@@ -23,7 +23,8 @@ extern "C" {
 #endif
 
 /* number 0: an answer, and value says which (below, at each call).
-   number KERNELHOP_NONE: only from kernelhop_judge and kernelhop_answer_card: no product of at most n factors is the target; value is n.
+   number KERNELHOP_NONE: only from three calls. From kernelhop_judge and kernelhop_answer_card: no product of at most n factors is the target; value is
+   n. From kernelhop_reachable: no product is the target, of however many factors; value is 0.
    number 1 to 16: refused by that question; value is the place that it names, or 0. */
 struct kernelhop_outcome {
     uint8_t number;
@@ -38,7 +39,7 @@ enum {
     KERNELHOP_STACK = 131072
 };
 
-/* The release that is linked: 10,000 times its major number, 100 times its minor one, and its patch number. So release 1.1.0 is 10100, and a later
+/* The release that is linked: 10,000 times its major number, 100 times its minor one, and its patch number. So release 1.2.0 is 10200, and a later
    release has a larger number. */
 uint32_t kernelhop_version(void);
 
@@ -80,8 +81,16 @@ struct kernelhop_outcome kernelhop_judge(const uint8_t *bytes, size_t bytes_len,
                                          size_t target_len, uint16_t n, uint16_t *first, size_t first_len, uint16_t *second, size_t second_len,
                                          uint8_t *witness, size_t witness_len);
 
-/* The same for the list, the target and n that a query card says; the program `verdict` prints its answer as a line. 16-bit numbers and matrix
-   entries have the low byte first. A matrix as the target is its normal form.
+/* Is the target a product of generators, of however many? The list is as for kernelhop_judge. Yes: value is 1. No: KERNELHOP_NONE, and value is 0; then
+   kernelhop_judge says none for every n. Factors are neither written nor counted, so what takes more of them than any n allows is a yes too. The empty
+   target is the product of no factors: a yes for every list.
+   After a yes or a no the first q * q entries of both tables are 0 and the others remain, with the q of kernelhop_judge, and whatever stood there.
+   Asks: 7 to 12 as kernelhop_judge does; 15, first_len and second_len at least q * q. */
+struct kernelhop_outcome kernelhop_reachable(const uint8_t *bytes, size_t bytes_len, const uint16_t *ends, size_t ends_len, const uint8_t *target,
+                                             size_t target_len, uint16_t *first, size_t first_len, uint16_t *second, size_t second_len);
+
+/* What kernelhop_judge says of the list, the target and n that a query card says; the program `verdict` prints its answer as a line. 16-bit numbers and
+   matrix entries have the low byte first. A matrix as the target is its normal form.
    Asks: 1, at most 8,326 bytes; 2, a first byte with bits 4 to 7 clear and not both bits 1 and 2; 3, every field whole (place: the card's length);
    4, no byte behind the last field (place: the first); for a matrix 5 and 6 as above; then 7 to 15 as kernelhop_judge does. */
 struct kernelhop_outcome kernelhop_answer_card(const uint8_t *card, size_t card_len, uint16_t *first, size_t first_len, uint16_t *second,

@@ -41,7 +41,7 @@ static struct kernelhop_outcome word_to_matrix(const char *word, int64_t out[4])
 }
 
 static void version(void) {
-    CHECK(kernelhop_version() >= 10100);
+    CHECK(kernelhop_version() >= 10200);
 }
 
 static void words(void) {
@@ -160,6 +160,11 @@ static void verdicts(void) {
     free(second);
 }
 
+/* Tables that are large enough for every list. */
+enum { LARGEST = KERNELHOP_SIDE * KERNELHOP_SIDE };
+static uint16_t largest_first[LARGEST];
+static uint16_t largest_second[LARGEST];
+
 /* The words in a row, with their ends. */
 static size_t join(const char *const *words, size_t count, uint8_t *bytes, uint16_t *ends) {
     size_t len = 0;
@@ -173,16 +178,13 @@ static size_t join(const char *const *words, size_t count, uint8_t *bytes, uint1
 
 /* Is the target a member by just these factors, with n 1,000? */
 static int member_by(const char *const *words, size_t count, const char *target, const uint8_t *factors, size_t factors_len) {
-    static uint16_t first[KERNELHOP_SIDE * KERNELHOP_SIDE];
-    static uint16_t second[KERNELHOP_SIDE * KERNELHOP_SIDE];
     static uint8_t witness[KERNELHOP_BOUND];
-    const size_t len = KERNELHOP_SIDE * KERNELHOP_SIDE;
     uint8_t bytes[64];
     uint16_t ends[8];
     size_t bytes_len = join(words, count, bytes, ends);
     memset(witness, 9, sizeof witness);
-    return is(kernelhop_judge(bytes, bytes_len, ends, count, (const uint8_t *)target, strlen(target), KERNELHOP_BOUND, first, len, second, len,
-                              witness, sizeof witness),
+    return is(kernelhop_judge(bytes, bytes_len, ends, count, (const uint8_t *)target, strlen(target), KERNELHOP_BOUND, largest_first, LARGEST,
+                              largest_second, LARGEST, witness, sizeof witness),
               0, factors_len) &&
            memcmp(witness, factors, factors_len) == 0 && witness[factors_len] == 9;
 }
@@ -204,10 +206,10 @@ static void first_of_the_least(void) {
 
 /* Four generators and a target of 80 letters in normal form: no call needs larger tables. */
 static void largest_tables(void) {
-    static uint16_t first[KERNELHOP_SIDE * KERNELHOP_SIDE];
-    static uint16_t second[KERNELHOP_SIDE * KERNELHOP_SIDE];
     static uint8_t witness[KERNELHOP_BOUND];
-    const size_t len = KERNELHOP_SIDE * KERNELHOP_SIDE;
+    uint16_t *first = largest_first;
+    uint16_t *second = largest_second;
+    const size_t len = LARGEST;
     const uint16_t ends[] = {80, 160, 240, 320};
     uint8_t bytes[320];
     for (size_t i = 0; i < sizeof bytes; i++) {
@@ -217,6 +219,111 @@ static void largest_tables(void) {
     CHECK(is(kernelhop_judge(bytes, 320, ends, 4, target, 80, KERNELHOP_BOUND, first, len - 1, second, len, witness, KERNELHOP_BOUND), 15, 0));
     CHECK(is(kernelhop_judge(bytes, 320, ends, 4, target, 80, KERNELHOP_BOUND, first, len, second, len, witness, KERNELHOP_BOUND), 0, 1));
     CHECK(is(kernelhop_judge(bytes, 320, ends, 4, target, 80, KERNELHOP_BOUND + 1, first, len, second, len, witness, KERNELHOP_BOUND), 13, 0));
+    CHECK(is(kernelhop_reachable(bytes, 320, ends, 4, target, 80, first, len, second, len - 1), 15, 0));
+    CHECK(is(kernelhop_reachable(bytes, 320, ends, 4, target, 80, first, len, second, len), 0, 1));
+}
+
+/* The verdict without a bound on a list of words, with the largest tables. */
+static struct kernelhop_outcome reachable(const char *const *words, size_t count, const char *target) {
+    static uint8_t bytes[8192];
+    uint16_t ends[65];
+    size_t bytes_len = join(words, count, bytes, ends);
+    return kernelhop_reachable(bytes, bytes_len, ends, count, (const uint8_t *)target, strlen(target), largest_first, LARGEST, largest_second, LARGEST);
+}
+
+static void without_a_bound(void) {
+    CHECK(is(reachable((const char *[]){"RS", "S"}, 2, "R"), 0, 1));
+    CHECK(is(reachable((const char *[]){"RSRS", "S", "SRSS"}, 3, "R"), 0, 1));
+    CHECK(is(reachable((const char *[]){"SR", "RSS"}, 2, "RSSRSS"), 0, 1));
+    CHECK(is(reachable((const char *[]){"SR"}, 1, "R"), KERNELHOP_NONE, 0));
+    CHECK(is(reachable((const char *[]){"SR"}, 1, "RSS"), KERNELHOP_NONE, 0));
+    CHECK(is(reachable((const char *[]){"", "SSS"}, 2, "S"), KERNELHOP_NONE, 0));
+    /* The product of no factors, also of a list that has none. */
+    CHECK(is(reachable((const char *[]){"SR"}, 1, "RSSSR"), 0, 1));
+    CHECK(is(reachable((const char *[]){"SSS"}, 1, ""), 0, 1));
+    uint16_t one[1] = {65535};
+    uint16_t other[1] = {65535};
+    CHECK(is(kernelhop_reachable(NULL, 0, NULL, 0, NULL, 0, one, 1, other, 1), 0, 1) && one[0] == 0 && other[0] == 0);
+    CHECK(is(kernelhop_reachable(NULL, 0, NULL, 0, (const uint8_t *)"R", 1, largest_first, LARGEST, largest_second, LARGEST), KERNELHOP_NONE, 0));
+    CHECK(is(kernelhop_reachable(NULL, 0, NULL, 0, NULL, 0, NULL, 0, NULL, 0), 15, 0));
+}
+
+static char *repeat(char *out, const char *word, size_t times) {
+    for (size_t i = 0; i < times; i++) {
+        memcpy(out, word, strlen(word));
+        out += strlen(word);
+    }
+    *out = 0;
+    return out;
+}
+
+/* T to the 37th and the -26th, and T to the -1st before U to the 25th and the -34th, where T is SR and U is SSR: 1,217 factors make U, and no fewer. */
+static void beyond_every_bound(void) {
+    static uint8_t witness[KERNELHOP_BOUND];
+    char words[4][128];
+    repeat(words[0], "SR", 37);
+    repeat(words[1], "RSS", 26);
+    repeat(repeat(words[2], "RSS", 1), "SSR", 25);
+    repeat(repeat(words[3], "RSS", 1), "RS", 34);
+    const char *const list[] = {words[0], words[1], words[2], words[3]};
+    uint8_t bytes[512];
+    uint16_t ends[4];
+    size_t len = join(list, 4, bytes, ends);
+    const uint8_t *target = (const uint8_t *)"SSR";
+    CHECK(is(kernelhop_judge(bytes, len, ends, 4, target, 3, KERNELHOP_BOUND, largest_first, LARGEST, largest_second, LARGEST, witness, sizeof witness),
+             KERNELHOP_NONE, KERNELHOP_BOUND));
+    CHECK(is(reachable(list, 4, "SSR"), 0, 1));
+}
+
+/* Each question of the verdict without a bound, with its place. */
+static void refused_without_a_bound(void) {
+    const char *many[65];
+    for (size_t i = 0; i < 65; i++) {
+        many[i] = "R";
+    }
+    static char letters[4098];
+    repeat(letters, "R", 4097);
+    char longest[81];
+    char too_long[83];
+    repeat(longest, "SR", 40);
+    repeat(too_long, "SR", 41);
+    memset(largest_first, 255, sizeof largest_first);
+    memset(largest_second, 255, sizeof largest_second);
+
+    CHECK(is(reachable(many, 65, "x"), 7, 0));
+    CHECK(is(reachable((const char *[]){letters}, 1, "x"), 8, 0));
+    CHECK(is(reachable((const char *[]){"x"}, 1, letters), 8, 0));
+    const uint8_t *bytes = (const uint8_t *)"RSx";
+    CHECK(is(kernelhop_reachable(bytes, 3, (const uint16_t[]){2, 1, 3}, 3, bytes, 1, largest_first, LARGEST, largest_second, LARGEST), 9, 1));
+    CHECK(is(kernelhop_reachable(bytes, 3, (const uint16_t[]){1, 2}, 2, bytes, 1, largest_first, LARGEST, largest_second, LARGEST), 9, 2));
+    CHECK(is(kernelhop_reachable(bytes, 3, NULL, 0, bytes, 1, largest_first, LARGEST, largest_second, LARGEST), 9, 0));
+    CHECK(is(reachable((const char *[]){too_long, "Sx"}, 2, "x"), 10, 83));
+    CHECK(is(reachable((const char *[]){too_long, "S"}, 2, "Rx"), 10, 84));
+    CHECK(is(reachable((const char *[]){"R", too_long}, 2, too_long), 11, 1));
+    CHECK(is(reachable((const char *[]){longest, longest, longest, longest, "S"}, 5, too_long), 11, 4));
+    CHECK(is(reachable((const char *[]){"SR"}, 1, too_long), 12, 0));
+    CHECK(all_are(largest_first, 0, LARGEST, 65535) && all_are(largest_second, 0, LARGEST, 65535));
+    CHECK(is(reachable((const char *[]){"SR"}, 1, longest), 0, 1));
+}
+
+/* List SR: with target SRSRSR, a yes, q is 15; with target RSSRSS, a no, it is 15 too. The tables have an entry more, which remains. */
+static void tables_without_a_bound(void) {
+    const char *targets[] = {"SRSRSR", "RSSRSS"};
+    const uint8_t *bytes = (const uint8_t *)"SR";
+    const uint16_t ends[] = {2};
+    for (size_t i = 0; i < 2; i++) {
+        const uint8_t *target = (const uint8_t *)targets[i];
+        uint16_t first[226];
+        uint16_t second[226];
+        memset(first, 255, sizeof first);
+        memset(second, 255, sizeof second);
+        CHECK(is(kernelhop_reachable(bytes, 2, ends, 1, target, 6, first, 224, second, 225), 15, 0));
+        CHECK(is(kernelhop_reachable(bytes, 2, ends, 1, target, 6, first, 225, second, 224), 15, 0));
+        CHECK(all_are(first, 0, 226, 65535) && all_are(second, 0, 226, 65535));
+        CHECK(is(kernelhop_reachable(bytes, 2, ends, 1, target, 6, first, 226, second, 226), i == 0 ? 0 : KERNELHOP_NONE, i == 0));
+        CHECK(all_are(first, 0, 225, 0) && first[225] == 65535);
+        CHECK(all_are(second, 0, 225, 0) && second[225] == 65535);
+    }
 }
 
 static void cards(void) {
@@ -240,6 +347,10 @@ static void *all(void *nothing) {
     verdicts();
     first_of_the_least();
     largest_tables();
+    without_a_bound();
+    beyond_every_bound();
+    refused_without_a_bound();
+    tables_without_a_bound();
     cards();
     return nothing;
 }

@@ -8,6 +8,8 @@ Refused.
     Member(factors=(0, 1, 2))
     >>> kernelhop.verdict(["RSRS", "S", "SRSS"], "R", 2)
     NoMember(n=2)
+    >>> kernelhop.reachable(["RSRS", "S", "SRSS"], "R"), kernelhop.reachable(["SR"], "R")
+    (True, False)
     >>> kernelhop.reduce("SRT")
     Traceback (most recent call last):
     kernelhop.Refused: refused by question 10, place 2: a letter is not R or S
@@ -25,7 +27,7 @@ from collections.abc import Collection, Mapping, MappingView, Sequence, Set
 from dataclasses import dataclass
 from itertools import accumulate
 
-__all__ = ["Member", "NoMember", "Refused", "answer_card", "invert", "is_normal", "matrix", "reduce", "verdict", "word"]
+__all__ = ["Member", "NoMember", "Refused", "answer_card", "invert", "is_normal", "matrix", "reachable", "reduce", "verdict", "word"]
 
 # What a no to each question says, question 1 first. The Rust package has the same texts.
 TEXTS = (
@@ -151,6 +153,17 @@ def verdict(generators, target, n=LARGEST_BOUND):
     return _judged(_judge, letters, len(letters), ends.buffer_info()[0], len(ends), target, len(target), n)
 
 
+def reachable(generators, target):
+    """Is the target a product of the generators, of however many? True or False. Asks questions 7 to 12.
+
+    Factors are neither found nor counted, so what takes more of them than any n of `verdict` allows is True too. The empty word is the product of no factors:
+    True for every list. The generators are as `verdict` takes them.
+    """
+    letters, ends = _list(generators)
+    target = _letters(target)
+    return _reached(letters, len(letters), ends.buffer_info()[0], len(ends), target, len(target))
+
+
 def answer_card(card):
     """The verdict that a query card asks for: a bytes object, or the bytes of any other object that has them. Asks questions 1 to 13."""
     card = _bytes(card)
@@ -198,6 +211,7 @@ _is_normal = _call("is_normal", *_READ)
 _word_to_matrix = _call("word_to_matrix", *_READ, ctypes.POINTER(ctypes.c_int64 * 4))
 _matrix_to_word = _call("matrix_to_word", *[ctypes.c_int64] * 4, *_LENT)
 _judge = _call("judge", *_READ, *_LENT, *_READ, ctypes.c_uint16, *_LENT * 3)
+_reachable = _call("reachable", *_READ, *_LENT, *_READ, *_LENT * 2)
 _answer_card = _call("answer_card", *_READ, *_LENT * 3)
 
 __version__ = f"{_release // 10000}.{_release // 100 % 100}.{_release % 100}"
@@ -265,7 +279,8 @@ class _Room:
     def __init__(self):
         table = ctypes.c_uint16 * (LARGEST_SIDE * LARGEST_SIDE)
         first, second, self.witness = table(), table(), (ctypes.c_uint8 * LARGEST_BOUND)()
-        self.lent = first, len(first), second, len(second), self.witness, len(self.witness)
+        self.tables = first, len(first), second, len(second)
+        self.lent = *self.tables, self.witness, len(self.witness)
 
 
 class _Kept(threading.local):
@@ -290,3 +305,12 @@ def _judged(call, *inputs):
     if number == NONE:
         return NoMember(value)
     raise Refused(number, value)
+
+
+def _reached(*inputs):
+    # Nothing is read from the tables afterwards, so the room stays where it is.
+    _KEPT.room = room = _KEPT.room or _Room()
+    outcome = _reachable(*inputs, *room.tables)
+    if outcome.number == NONE:
+        return False
+    return _value(outcome) == 1

@@ -14,7 +14,7 @@ from array import array
 from unittest import mock
 
 import kernelhop
-from kernelhop import Member, NoMember, Refused, answer_card, invert, is_normal, matrix, reduce, verdict, word
+from kernelhop import Member, NoMember, Refused, answer_card, invert, is_normal, matrix, reachable, reduce, verdict, word
 
 HERE = os.path.dirname(os.path.abspath(__file__))
 RUST = os.path.join(HERE, "..", "rust", "src", "refusal.rs")
@@ -188,6 +188,71 @@ class Verdicts(Case):
             self.assertEqual(verdict(given, "R", 1), Member((1,)))
 
 
+class WithoutABound(Case):
+    def test_worked(self):
+        for generators, target in [
+            (["RSRS", "S", "SRSS"], "R"),
+            (["RS", "S"], "R"),
+            (["SR", "RSS"], "RSSRSS"),
+            (iter(["SR"]), "SR" * 40),
+            # the product of no factors, also of a list that has none
+            (["SR"], "RSSSR"),
+            (["SSS"], ""),
+            ([], ""),
+        ]:
+            self.assertIs(reachable(generators, target), True)
+        for generators, target in [(["SR"], "R"), (["SR"], "RSS"), (["", "SSS"], "S"), ([], "R")]:
+            self.assertIs(reachable(generators, target), False)
+
+    def test_beyond_every_bound(self):
+        """T to the 37th and the -26th, and T to the -1st before U to the 25th and the -34th: 1,217 factors make U, and no fewer."""
+        generators = ["SR" * 37, "RSS" * 26, "RSS" + "SSR" * 25, "RSS" + "RS" * 34]
+        self.assertEqual(verdict(generators, "SSR"), NoMember(1000))
+        self.assertIs(reachable(generators, "SSR"), True)
+
+    def test_largest_tables(self):
+        self.assertIs(reachable(["SR" * 40] * 4, "SR" * 40), True)
+        self.assertIs(reachable(["SR" * 40] * 4, "SR" * 39), False)
+
+    def test_refused(self):
+        long = "SR" * 41
+        self.refused(7, 0, reachable, ["x"] * 65, "x")
+        self.refused(8, 0, reachable, ["R" * 70000, "S"], "x")
+        self.refused(8, 0, reachable, ["x"], "R" * 4097)
+        self.refused(10, 3, reachable, ["RS", "Sx"], long)
+        self.refused(10, 4, reachable, ["RS", "S"], "Rx")
+        self.refused(11, 1, reachable, ["R", long], long)
+        self.refused(11, 4, reachable, ["SR" * 40] * 5, long)
+        self.refused(12, 0, reachable, ["R"], long)
+
+    def test_misuse(self):
+        for given, text in [("RS", "not one word"), (["R", 5], "each of them a str"), ({"R"}, "not set, whose order is not the caller's")]:
+            with self.assertRaisesRegex(TypeError, text):
+                reachable(given, "R")
+        with self.assertRaisesRegex(TypeError, "a word is a str"):
+            reachable(["R"], b"R")
+
+    def test_tables(self):
+        """List SR, where q is 15 for both targets: a refusal changes nothing, and an answer leaves zeros in the front of both tables and the rest as it was."""
+        for target, answer in [(b"SRSRSR", (0, 1)), (b"RSSRSS", (kernelhop.NONE, 0))]:
+            first, second = array("H", [7] * 226), array("H", [7] * 230)
+
+            def asked(ends, lengths):
+                ends = array("H", ends)
+                lent = first.buffer_info()[0], lengths[0], second.buffer_info()[0], lengths[1]
+                outcome = kernelhop._reachable(b"SR", 2, ends.buffer_info()[0], len(ends), target, len(target), *lent)
+                return outcome.number, outcome.value
+
+            self.assertEqual(asked([2], (224, 225)), (15, 0))
+            self.assertEqual(asked([2], (225, 224)), (15, 0))
+            self.assertEqual(asked([2, 1], (226, 230)), (9, 1))
+            self.assertEqual(asked([1], (226, 230)), (9, 1))
+            self.assertEqual((set(first), set(second)), ({7}, {7}))
+            self.assertEqual(asked([2], (226, 230)), answer)
+            for table in (first, second):
+                self.assertEqual((set(table[:225]), set(table[225:])), ({0}, {7}))
+
+
 class Rooms(Case):
     """The tables that a thread keeps from one verdict to the next."""
 
@@ -199,6 +264,9 @@ class Rooms(Case):
         self.assertEqual(verdict(["S"], "R", 7), NoMember(7))
         self.assertEqual(answer_card(b"\x0a\x01\x00R\x01\x01\x00R"), Member((0,)))
         self.refused(10, 1, verdict, ["S", "x"], "R", 7)
+        self.assertIs(reachable(["S"], "SS"), True)
+        self.assertIs(reachable(["S"], "R"), False)
+        self.refused(10, 1, reachable, ["S", "x"], "R")
         self.long()
 
     def test_one_room_is_kept(self):
@@ -206,6 +274,8 @@ class Rooms(Case):
         room = kernelhop._KEPT.room
         self.refused(13, 0, verdict, ["S"], "R", 1001)
         self.refused(2, 0, answer_card, b"")
+        self.refused(12, 0, reachable, ["S"], "SR" * 41)
+        self.assertIs(reachable(["S"], "SS"), True)
         self.long()
         self.assertIs(kernelhop._KEPT.room, room)
 
@@ -216,6 +286,8 @@ class Rooms(Case):
             for _ in range(50):
                 found = verdict(["SR", "RSS"] if k % 2 else ["RSS", "SR"], "SR" * k, 8)
                 if found != Member(((k + 1) % 2,) * k) or answer_card(bytes([3, k, 0, 1, 0, 82])) != NoMember(k):
+                    wrong.append(k)
+                if reachable(["SRSR"], "SR" * k) != (k % 2 == 0):
                     wrong.append(k)
 
         threads = [threading.Thread(target=ask, args=(k,)) for k in range(1, 9)]
@@ -233,6 +305,7 @@ class Rooms(Case):
             outcome = judge(*arguments)
             with mock.patch.object(kernelhop, "_judge", judge):
                 self.assertEqual(verdict(["S", "RR", "SS"], "SS", 2), Member((2,)))
+            self.assertIs(reachable(["S"], "SS"), True)
             return outcome
 
         with mock.patch.object(kernelhop, "_judge", interrupted):

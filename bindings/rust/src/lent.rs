@@ -6,7 +6,7 @@
 
 use crate::Refusal;
 
-/// An answer: 0 and its value. None: `NONE` and n. A refusal: the question's number, from 1 to 16, and its place.
+/// An answer: 0 and its value. None: `NONE` and n, or 0 where there is no bound. A refusal: the question's number, from 1 to 16, and its place.
 #[repr(C)]
 struct Outcome {
     number: u8,
@@ -43,6 +43,18 @@ extern "C" {
         second_len: usize,
         witness: *mut u8,
         witness_len: usize,
+    ) -> Outcome;
+    fn kernelhop_reachable(
+        bytes: *const u8,
+        bytes_len: usize,
+        ends: *const u16,
+        ends_len: usize,
+        target: *const u8,
+        target_len: usize,
+        first: *mut u16,
+        first_len: usize,
+        second: *mut u16,
+        second_len: usize,
     ) -> Outcome;
     fn kernelhop_answer_card(
         card: *const u8,
@@ -81,6 +93,13 @@ fn judged(outcome: Outcome) -> Result<Judged, Refusal> {
         _ => Ok(Judged::Member {
             count: value(outcome)?,
         }),
+    }
+}
+
+fn reached(outcome: Outcome) -> Result<bool, Refusal> {
+    match outcome.number {
+        NONE => Ok(false),
+        _ => Ok(value(outcome)? == 1),
     }
 }
 
@@ -141,6 +160,31 @@ pub fn judge(
             second.len(),
             witness.as_mut_ptr(),
             witness.len(),
+        )
+    })
+}
+
+/// The verdict without a bound: whether the target is a product of the list's generators, of however many. The empty word is the product of no factors: a yes for
+/// every list. Asks questions 7 to 12 and 15. No factors are written; of each table the first q * q entries are 0 afterwards, and the others are as they were.
+pub fn reachable(
+    bytes: &[u8],
+    ends: &[u16],
+    target: &[u8],
+    first: &mut [u16],
+    second: &mut [u16],
+) -> Result<bool, Refusal> {
+    reached(unsafe {
+        kernelhop_reachable(
+            bytes.as_ptr(),
+            bytes.len(),
+            ends.as_ptr(),
+            ends.len(),
+            target.as_ptr(),
+            target.len(),
+            first.as_mut_ptr(),
+            first.len(),
+            second.as_mut_ptr(),
+            second.len(),
         )
     })
 }

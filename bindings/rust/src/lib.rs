@@ -7,11 +7,12 @@
 //! wants to say what memory is used lends it, by the calls of `lent`.
 //!
 //! ```
-//! use kernelhop::{reduce, verdict, Verdict};
+//! use kernelhop::{reachable, reduce, verdict, Verdict};
 //!
 //! let answer = verdict(&["RSRS", "S", "SRSS"], "R", 3)?;
 //! assert_eq!(answer, Verdict::Member { factors: vec![0, 1, 2] });
 //! assert_eq!(verdict(&["RSRS", "S", "SRSS"], "R", 2)?, Verdict::None { n: 2 });
+//! assert!(reachable(&["RSRS", "S", "SRSS"], "R")?);
 //!
 //! let refusal = reduce("SRT").unwrap_err();
 //! assert_eq!((refusal.number(), refusal.place()), (10, 2));
@@ -61,7 +62,7 @@ fn text(letters: &[u8]) -> String {
     letters.iter().map(|&letter| char::from(letter)).collect()
 }
 
-/// The release of the library that answers, such as `1.1.0`.
+/// The release of the library that answers, such as `1.2.0`.
 pub fn version() -> String {
     let release = lent::version();
     format!(
@@ -108,13 +109,8 @@ pub fn matrix_to_word(matrix: [i64; 4]) -> Result<String, Refusal> {
     Ok(text(&out[..length]))
 }
 
-/// Is the target a product of at most n of the generators? Asks questions 7 to 13.
-pub fn verdict(
-    generators: &[impl AsRef<[u8]>],
-    target: impl AsRef<[u8]>,
-    n: u16,
-) -> Result<Verdict, Refusal> {
-    let target = target.as_ref();
+/// The letters of the generators, one behind the other, and their ends.
+fn joined(generators: &[impl AsRef<[u8]>]) -> (Vec<u8>, Vec<u16>) {
     let mut bytes = Vec::new();
     let mut ends = Vec::with_capacity(generators.len());
     for generator in generators {
@@ -122,6 +118,17 @@ pub fn verdict(
         // An end that does not fit stands behind more than 4,096 letters: question 7 or 8 refuses before an end is looked at.
         ends.push(u16::try_from(bytes.len()).unwrap_or(u16::MAX));
     }
+    (bytes, ends)
+}
+
+/// Is the target a product of at most n of the generators? Asks questions 7 to 13.
+pub fn verdict(
+    generators: &[impl AsRef<[u8]>],
+    target: impl AsRef<[u8]>,
+    n: u16,
+) -> Result<Verdict, Refusal> {
+    let target = target.as_ref();
+    let (bytes, ends) = joined(generators);
     judged(|room| {
         lent::judge(
             &bytes,
@@ -133,6 +140,17 @@ pub fn verdict(
             &mut room.witness,
         )
     })
+}
+
+/// Is the target a product of the generators, of however many? Factors are neither found nor counted, so what takes more of them than any n of `verdict` allows
+/// is a yes too. The empty word is the product of no factors: a yes for every list. Asks questions 7 to 12.
+pub fn reachable(
+    generators: &[impl AsRef<[u8]>],
+    target: impl AsRef<[u8]>,
+) -> Result<bool, Refusal> {
+    let target = target.as_ref();
+    let (bytes, ends) = joined(generators);
+    Room::lend(|room| lent::reachable(&bytes, &ends, target, &mut room.first, &mut room.second))
 }
 
 /// The verdict that a query card asks for. Asks questions 1 to 13.

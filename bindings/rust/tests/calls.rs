@@ -1,8 +1,8 @@
 //! The package's functions on worked values, edges, and what they refuse.
 
 use kernelhop::{
-    answer_card, invert, is_normal, lent, matrix_to_word, reduce, verdict, version, word_to_matrix,
-    Verdict,
+    answer_card, invert, is_normal, lent, matrix_to_word, reachable, reduce, verdict, version,
+    word_to_matrix, Verdict,
 };
 use std::{cell::RefCell, sync::mpsc, thread};
 
@@ -141,6 +141,40 @@ fn a_long_series() {
 fn the_largest_tables() {
     let list: Vec<_> = (0..4).map(|_| "SR".repeat(40)).collect();
     assert_eq!(verdict(&list, "SR".repeat(40), 1000).unwrap(), member(&[0]));
+    assert_eq!(reachable(&list, "SR".repeat(40)), Ok(true));
+    assert_eq!(reachable(&list, "SR".repeat(39)), Ok(false));
+}
+
+#[test]
+fn without_a_bound() {
+    assert_eq!(reachable(&["RSRS", "S", "SRSS"], "R"), Ok(true));
+    assert_eq!(reachable(&["RS", "S"], "R"), Ok(true));
+    assert_eq!(reachable(&["SR", "RSS"], "RSSRSS"), Ok(true));
+    assert_eq!(reachable(&[b"SR"], b"SRSRSR"), Ok(true));
+    assert_eq!(reachable(&["SR"], "R"), Ok(false));
+    assert_eq!(reachable(&["SR"], "RSS"), Ok(false));
+    assert_eq!(reachable(&["", "SSS"], "S"), Ok(false));
+    // The product of no factors, also of a list that has none.
+    assert_eq!(reachable(&["SR"], "RSSSR"), Ok(true));
+    assert_eq!(reachable(&["SSS"], ""), Ok(true));
+    assert_eq!(reachable(&[""; 0], ""), Ok(true));
+    assert_eq!(reachable(&[""; 0], "R"), Ok(false));
+}
+
+/// T to the 37th and the -26th, and T to the -1st before U to the 25th and the -34th: 1,217 factors make U, and no fewer.
+#[test]
+fn beyond_every_bound() {
+    let list = [
+        "SR".repeat(37),
+        "RSS".repeat(26),
+        format!("RSS{}", "SSR".repeat(25)),
+        format!("RSS{}", "RS".repeat(34)),
+    ];
+    assert_eq!(
+        verdict(&list, "SSR", 1000).unwrap(),
+        Verdict::None { n: 1000 }
+    );
+    assert_eq!(reachable(&list, "SSR"), Ok(true));
 }
 
 #[test]
@@ -162,6 +196,26 @@ fn verdicts_that_are_refused() {
     assert_eq!(refused(verdict(&["R"], "SR".repeat(41), 1)), (12, 0));
     assert_eq!(refused(verdict(&["R"], "R", 1001)), (13, 0));
     assert_eq!(refused(verdict(&["R"], "R", u16::MAX)), (13, 0));
+}
+
+#[test]
+fn refused_without_a_bound() {
+    let long = "SR".repeat(41);
+    assert_eq!(refused(reachable(&["x"; 65], "x")), (7, 0));
+    assert_eq!(refused(reachable(&["R".repeat(4097)], "x")), (8, 0));
+    assert_eq!(
+        refused(reachable(&["R".repeat(70_000), "S".into()], "x")),
+        (8, 0)
+    );
+    assert_eq!(refused(reachable(&["x"], "R".repeat(4097))), (8, 0));
+    assert_eq!(refused(reachable(&["RS", "Sx"], &long)), (10, 3));
+    assert_eq!(refused(reachable(&["RS", "S"], "Rx")), (10, 4));
+    assert_eq!(refused(reachable(&["R", &long], &long)), (11, 1));
+    assert_eq!(
+        refused(reachable(&vec!["SR".repeat(40); 5], &long)),
+        (11, 4)
+    );
+    assert_eq!(refused(reachable(&["R"], &long)), (12, 0));
 }
 
 #[test]
@@ -189,6 +243,9 @@ fn nothing_is_left_from_one_verdict_to_the_next() {
         member(&[0])
     );
     assert_eq!(refused(verdict(&["S", "x"], "R", 7)), (10, 1));
+    assert_eq!(reachable(&["S"], "SS"), Ok(true));
+    assert_eq!(reachable(&["S"], "R"), Ok(false));
+    assert_eq!(refused(reachable(&["S", "x"], "R")), (10, 1));
     assert_eq!(long(), member(&[0; 40]));
 }
 
@@ -205,6 +262,7 @@ fn several_threads() {
                         answer_card(&[3, k as u8, 0, 1, 0, b'R']).unwrap(),
                         Verdict::None { n: k as u16 }
                     );
+                    assert_eq!(reachable(&["SRSR"], "SR".repeat(k)), Ok(k % 2 == 0));
                 }
             });
         }
@@ -314,4 +372,39 @@ fn lent_slices() {
     assert_eq!(&out, b"SSxx");
     assert_eq!(refused(lent::invert(b"SRR", &mut out)), (14, 0));
     assert_eq!(&out, b"SSxx");
+}
+
+/// What is lent without a bound: list SR, where q is 15 for both targets.
+#[test]
+fn lent_slices_without_a_bound() {
+    let all_are = |table: &[u16], value| table.iter().all(|&entry| entry == value);
+    for (target, answer) in [(b"SRSRSR", true), (b"RSSRSS", false)] {
+        let mut first = [7; 226];
+        let mut second = [7; 230];
+        let (short, enough) = (224, 225);
+        for (one, other) in [(short, enough), (enough, short)] {
+            let lent = (&mut first[..one], &mut second[..other]);
+            let refusal = lent::reachable(b"SR", &[2], target, lent.0, lent.1);
+            assert_eq!(refused(refusal), (15, 0));
+        }
+        for (ends, place) in [(&[2, 1][..], 1), (&[1], 1), (&[], 0)] {
+            let refusal = lent::reachable(b"SR", ends, target, &mut first, &mut second);
+            assert_eq!(refused(refusal), (9, place));
+        }
+        assert!(all_are(&first, 7) && all_are(&second, 7));
+        let reached = lent::reachable(b"SR", &[2], target, &mut first, &mut second);
+        assert_eq!(reached, Ok(answer));
+        assert!(all_are(&first[..225], 0) && all_are(&first[225..], 7));
+        assert!(all_are(&second[..225], 0) && all_are(&second[225..], 7));
+    }
+    let (mut first, mut second) = ([7], [7]);
+    assert_eq!(
+        refused(lent::reachable(b"", &[], b"", &mut first, &mut [])),
+        (15, 0)
+    );
+    assert_eq!(
+        lent::reachable(b"", &[], b"", &mut first, &mut second),
+        Ok(true)
+    );
+    assert_eq!((first, second), ([0], [0]));
 }
