@@ -1,19 +1,23 @@
 //! Measures the proved verdict against the same method in plain Rust, in one process: both get the same calls in turn, and must give the same verdict and
-//! write the same factors.
+//! write the same factors. The verdict without a bound is measured in the same way, and beside the one with a bound.
 //!
 //!     kernelhop_benchmark agree             only holds the one to the other, on 20,000 small calls, and both to a walk of the group
-//!     kernelhop_benchmark ratios            the ratios on the largest calls, one on a line
+//!     kernelhop_benchmark ratios            the ratios on the largest calls, a line for each kind: with a bound and without
 //!     kernelhop_benchmark PLOT FILE..       all tables in Markdown, and the plot: both of these and a walk of the group. Each file holds what `ratios` printed
 //!                                           where the functions were moved
 
 mod plot;
 mod reference;
 
-use kernelhop::lent::{judge, Judged};
+use kernelhop::lent::{judge, reachable, Judged};
 use kernelhop_trials::{element::Element, erasing::normal_form, walk::first_series};
-use reference::Verdict;
+use reference::{Refusal, Verdict};
 
-fn proved(call: &Call, lent: &mut Lent) -> Verdict {
+fn numbered(refusal: kernelhop::Refusal) -> Refusal {
+    (refusal.number(), refusal.place())
+}
+
+fn proved(call: &Call, lent: &mut Lent) -> Result<Verdict, Refusal> {
     let answer = judge(
         &call.bytes,
         &call.ends,
@@ -24,13 +28,13 @@ fn proved(call: &Call, lent: &mut Lent) -> Verdict {
         &mut lent.witness,
     );
     match answer {
-        Ok(Judged::Member { count }) => Verdict::Member(count as u16),
-        Ok(Judged::None { .. }) => Verdict::None,
-        Err(refusal) => Verdict::Refused(refusal.number(), refusal.place()),
+        Ok(Judged::Member { count }) => Ok(Verdict::Member(count as u16)),
+        Ok(Judged::None { .. }) => Ok(Verdict::None),
+        Err(refusal) => Err(numbered(refusal)),
     }
 }
 
-fn plain(call: &Call, lent: &mut Lent) -> Verdict {
+fn plain(call: &Call, lent: &mut Lent) -> Result<Verdict, Refusal> {
     reference::judge(
         &call.bytes,
         &call.ends,
@@ -43,7 +47,7 @@ fn plain(call: &Call, lent: &mut Lent) -> Verdict {
 }
 
 /// Plain Rust without the witness: list, tree, tables and zeroing, and what stands at the end of the last row.
-fn counted(call: &Call, lent: &mut Lent) -> Verdict {
+fn counted(call: &Call, lent: &mut Lent) -> Result<Verdict, Refusal> {
     reference::judge(
         &call.bytes,
         &call.ends,
@@ -55,8 +59,39 @@ fn counted(call: &Call, lent: &mut Lent) -> Verdict {
     )
 }
 
-/// One of the three above.
-type Run = fn(&Call, &mut Lent) -> Verdict;
+/// The verdict without a bound: whatever n is, and without the witness.
+fn proved_unbounded(call: &Call, lent: &mut Lent) -> Result<bool, Refusal> {
+    let answer = reachable(
+        &call.bytes,
+        &call.ends,
+        &call.target,
+        &mut lent.first,
+        &mut lent.second,
+    );
+    answer.map_err(numbered)
+}
+
+fn plain_unbounded(call: &Call, lent: &mut Lent) -> Result<bool, Refusal> {
+    reference::reachable(
+        &call.bytes,
+        &call.ends,
+        &call.target,
+        &mut lent.first,
+        &mut lent.second,
+    )
+}
+
+/// One of the five above.
+type Run<T> = fn(&Call, &mut Lent) -> Result<T, Refusal>;
+
+/// What is measured: a proved verdict, and the other beside it.
+type Both<A, B> = (Run<A>, Run<B>);
+
+const BOUNDED: Both<Verdict, Verdict> = (proved, plain);
+const UNBOUNDED: Both<bool, bool> = (proved_unbounded, plain_unbounded);
+const OVER_COUNTING: Both<Verdict, Verdict> = (proved, counted);
+/// They share the code of the rules, and are measured in the same rounds all the same: a ratio of two measurements would move with the machine.
+const OVER_BOUNDED: Both<bool, Verdict> = (proved_unbounded, proved);
 
 /// A list, a target and a bound.
 #[derive(Clone)]
@@ -192,9 +227,9 @@ impl Call {
     }
 }
 
-/// A verdict, and a member's factors.
+/// A verdict or a refusal, and a member's factors.
 struct Answer {
-    verdict: Verdict,
+    verdict: Result<Verdict, Refusal>,
     factors: Vec<u8>,
 }
 
@@ -203,44 +238,78 @@ impl Answer {
     fn must_be(&self, series: Option<Vec<u8>>) {
         match series {
             Some(series) => {
-                assert_eq!(self.verdict, Verdict::Member(series.len() as u16));
+                assert_eq!(self.verdict, Ok(Verdict::Member(series.len() as u16)));
                 assert_eq!(self.factors, series);
             }
-            None => assert_eq!(self.verdict, Verdict::None),
+            None => assert_eq!(self.verdict, Ok(Verdict::None)),
         }
     }
 }
 
-/// All on one call. The two that write a witness give the same verdict and leave the same in the lent slices, and their factors reach the target.
+/// All with a bound on one call. The two that write a witness give the same verdict and leave the same in the lent slices, and their factors reach the target.
 fn compare(call: &Call, lent: &Lent) -> Answer {
     let [mut ours, mut theirs, mut without] = [(); 3].map(|()| lent.clone());
     let verdict = proved(call, &mut ours);
     assert_eq!(verdict, plain(call, &mut theirs));
     assert!(ours == theirs, "the lent slices differ");
     let factors = match verdict {
-        Verdict::Member(count) => ours.witness[..usize::from(count)].to_vec(),
-        Verdict::None | Verdict::Refused(..) => Vec::new(),
+        Ok(Verdict::Member(count)) => ours.witness[..usize::from(count)].to_vec(),
+        Ok(Verdict::None) | Err(_) => Vec::new(),
     };
-    if let Verdict::Member(_) = verdict {
+    if let Ok(Verdict::Member(_)) = verdict {
         assert!(call.reached_by(&factors));
     }
     // Without a witness question 14 is not put.
-    if !matches!(verdict, Verdict::Refused(14, _)) {
+    if !matches!(verdict, Err((14, _))) {
         assert_eq!(verdict, counted(call, &mut without));
     }
     Answer { verdict, factors }
 }
 
+/// Both without a bound on one call. They give the same verdict and leave the same in the lent slices; what is a member with a bound is a yes, so a no is none.
+fn compare_unbounded(
+    call: &Call,
+    lent: &Lent,
+    bounded: Result<Verdict, Refusal>,
+) -> Result<bool, Refusal> {
+    let [mut ours, mut theirs] = [(); 2].map(|()| lent.clone());
+    let verdict = proved_unbounded(call, &mut ours);
+    assert_eq!(verdict, plain_unbounded(call, &mut theirs));
+    assert!(ours == theirs, "the lent slices differ");
+    match bounded {
+        Ok(Verdict::Member(_)) => assert_eq!(verdict, Ok(true)),
+        Ok(Verdict::None) => assert!(verdict.is_ok()),
+        // Questions 13 and 14 are about the bound.
+        Err((13 | 14, _)) => {}
+        Err(refusal) => assert_eq!(verdict, Err(refusal)),
+    }
+    verdict
+}
+
 fn compare_small(calls: usize) {
     let mut random = Random(0x6b65726e656c);
     let (mut members, mut none, mut refused) = (0, 0, 0);
+    let (mut yes, mut no) = (0, 0);
     for _ in 0..calls {
         let (call, lent) = small_call(&mut random);
         let answer = compare(&call, &lent);
+        let unbounded = compare_unbounded(&call, &lent, answer.verdict);
+        match unbounded {
+            Ok(true) => yes += 1,
+            Ok(false) => no += 1,
+            Err(_) => {}
+        }
+        // Series of these lists are short: what is a product at all is one of at most 1000 factors.
+        let widest = Call {
+            n: 1000,
+            ..call.clone()
+        };
+        let within = counted(&widest, &mut lent.clone()).map(|verdict| verdict != Verdict::None);
+        assert_eq!(unbounded, within);
         match answer.verdict {
-            Verdict::Member(_) => members += 1,
-            Verdict::None => none += 1,
-            Verdict::Refused(..) => {
+            Ok(Verdict::Member(_)) => members += 1,
+            Ok(Verdict::None) => none += 1,
+            Err(_) => {
                 refused += 1;
                 continue;
             }
@@ -249,6 +318,10 @@ fn compare_small(calls: usize) {
     }
     println!(
         "Both agree on {calls} small random calls, and a walk of the group finds the same factors: {members} members, {none} none, {refused} refused.\n"
+    );
+    println!(
+        "Without a bound both agree on them too, and with n 1000 plain Rust says the same: {yes} yes, {no} no, {} refused.\n",
+        calls - yes - no
     );
 }
 
@@ -296,14 +369,19 @@ struct Measured {
 }
 
 /// The milliseconds of both on one call. The one that comes second finds the call in the cache.
-fn measure_call(call: &Call, other: Run, lent: &mut Lent, proved_first: bool) -> (f64, f64) {
+fn measure_call<A, B>(
+    call: &Call,
+    (ours, theirs): Both<A, B>,
+    lent: &mut Lent,
+    ours_first: bool,
+) -> (f64, f64) {
     let call = std::hint::black_box(call);
-    if proved_first {
-        let ours = timed(|| proved(call, lent));
-        (ours, timed(|| other(call, lent)))
+    if ours_first {
+        let time = timed(|| ours(call, lent));
+        (time, timed(|| theirs(call, lent)))
     } else {
-        let theirs = timed(|| other(call, lent));
-        (timed(|| proved(call, lent)), theirs)
+        let time = timed(|| theirs(call, lent));
+        (timed(|| ours(call, lent)), time)
     }
 }
 
@@ -323,16 +401,16 @@ const SHORT: Length = Length {
     milliseconds: 1000.0,
 };
 
-/// Rounds over all calls, each made once by the proved verdict and once by the other. One call made again and again takes less time than a job sees, which
+/// Rounds over all calls, each made once by a proved verdict and once by the other. One call made again and again takes less time than a job sees, which
 /// asks about each list once. So the two of plain Rust are not measured in the same rounds: they are the same code.
-fn measure(calls: &[Call], other: Run, length: Length, lent: &mut Lent) -> Measured {
+fn measure<A, B>(calls: &[Call], both: Both<A, B>, length: Length, lent: &mut Lent) -> Measured {
     let mut sums = Vec::new();
     let start = now();
     while sums.len() < length.rounds || now() - start < length.milliseconds {
-        let proved_first = sums.len() % 2 == 0;
+        let ours_first = sums.len() % 2 == 0;
         let times = calls
             .iter()
-            .map(|call| measure_call(call, other, lent, proved_first));
+            .map(|call| measure_call(call, both, lent, ours_first));
         sums.push(times.fold((0.0, 0.0), |sum, time| (sum.0 + time.0, sum.1 + time.1)));
     }
     Measured {
@@ -349,12 +427,14 @@ const SHAPES: [(usize, usize); 4] = [(64, 5), (32, 10), (16, 20), (4, 80)];
 const LISTS: usize = 60;
 
 /// Lists of powers of T = SR and U = SSR, and targets of each, which all are products. There are many series of equal count, and they are long.
-const POWERS: [(&str, &[&str]); 3] = [
+const POWERS: [(&str, &[&str]); 4] = [
     (
         "T^37, T^-26, U^26, U^-35",
         &["T", "U", "T U", "T^-3 U^2", "T^5 U^-7"],
     ),
     ("T^37, T^-26, T^-1 U^24 T^-1, T^-1 U^-37", &["U"]),
+    // A product only of more than 1000 factors.
+    ("T^37, T^-26, T^-1 U^25, T^-1 U^-34", &["U"]),
     (
         "T^13, T^-11, U^9, U^-13, T^7, U^-7",
         &["T", "U", "T U", "T^-3 U^2", "T^5 U^-7", "T^8 U^8"],
@@ -400,18 +480,38 @@ fn kinds() -> Vec<Kind> {
     random.into_iter().chain(powers).collect()
 }
 
+/// The ratios of the proved verdict to plain Rust on one kind.
+struct Ratios {
+    bounded: f64,
+    unbounded: f64,
+}
+
 fn print_ratios(lent: &mut Lent) {
-    for kind in kinds() {
-        println!("{:.4}", measure(&kind.calls, plain, LONG, lent).ratio);
+    for Kind { calls, .. } in kinds() {
+        let bounded = measure(&calls, BOUNDED, LONG, lent).ratio;
+        let unbounded = measure(&calls, UNBOUNDED, LONG, lent).ratio;
+        println!("{bounded:.4} {unbounded:.4}");
     }
 }
 
 /// What `print_ratios` printed, of a program whose functions are moved.
-fn read_ratios(file: &str) -> Vec<f64> {
+fn read_ratios(file: &str) -> Vec<Ratios> {
     let text = std::fs::read_to_string(file).expect("a file of ratios");
-    text.lines()
-        .map(|line| line.parse().expect("a ratio"))
-        .collect()
+    let read = |line: &str| {
+        let (bounded, unbounded) = line.split_once(' ').expect("two ratios");
+        let [bounded, unbounded] =
+            [bounded, unbounded].map(|ratio| ratio.parse().expect("a ratio"));
+        Ratios { bounded, unbounded }
+    };
+    text.lines().map(read).collect()
+}
+
+/// Two cells of a table: a ratio and those where the functions are moved, and the mean of them all.
+fn cells(ratio: f64, moved: impl Iterator<Item = f64>) -> String {
+    let ratios: Vec<f64> = std::iter::once(ratio).chain(moved).collect();
+    let mean = ratios.iter().sum::<f64>() / ratios.len() as f64;
+    let ratios: Vec<_> = ratios.iter().map(|ratio| format!("{ratio:.2}")).collect();
+    format!("{} | {mean:.2}", ratios.join(" "))
 }
 
 fn compare_all(calls: &[Call], lent: &Lent) -> Vec<Answer> {
@@ -421,8 +521,8 @@ fn compare_all(calls: &[Call], lent: &Lent) -> Vec<Answer> {
 /// The number of factors, where there is a series.
 fn counts(answers: &[Answer]) -> Vec<usize> {
     let count = |answer: &Answer| match answer.verdict {
-        Verdict::Member(count) => Some(usize::from(count)),
-        Verdict::None | Verdict::Refused(..) => None,
+        Ok(Verdict::Member(count)) => Some(usize::from(count)),
+        Ok(Verdict::None) | Err(_) => None,
     };
     answers.iter().filter_map(count).collect()
 }
@@ -430,17 +530,17 @@ fn counts(answers: &[Answer]) -> Vec<usize> {
 /// Some of the calls, each with the largest bound that its target is not within.
 fn none_calls(calls: &[Call], answers: &[Answer]) -> Vec<Call> {
     let none_call = |(call, answer): (&Call, &Answer)| match answer.verdict {
-        Verdict::Member(count) => Call {
+        Ok(Verdict::Member(count)) => Call {
             n: count - 1,
             ..call.clone()
         },
-        Verdict::None | Verdict::Refused(..) => call.clone(),
+        Ok(Verdict::None) | Err(_) => call.clone(),
     };
     calls.iter().zip(answers).take(FEW).map(none_call).collect()
 }
 
 /// Prints the table, and answers the ratio of each kind. `moved` are the ratios where the functions are moved, of each program in turn.
-fn against_plain_rust(kinds: &[Kind], lent: &mut Lent, moved: &[Vec<f64>]) -> Vec<f64> {
+fn against_plain_rust(kinds: &[Kind], lent: &mut Lent, moved: &[Vec<Ratios>]) -> Vec<f64> {
     println!("| generators | calls | members | most factors | proved, ms | plain Rust, ms | ratios | mean |");
     println!("|---|---|---|---|---|---|---|---|");
     let measured = kinds.iter().enumerate().map(|(i, Kind { name, calls })| {
@@ -449,24 +549,46 @@ fn against_plain_rust(kinds: &[Kind], lent: &mut Lent, moved: &[Vec<f64>]) -> Ve
             proved,
             other,
             ratio,
-        } = measure(calls, plain, LONG, lent);
-        let ratios: Vec<f64> = std::iter::once(ratio)
-            .chain(moved.iter().map(|ratios| ratios[i]))
-            .collect();
-        let mean = ratios.iter().sum::<f64>() / ratios.len() as f64;
-        let ratios: Vec<_> = ratios.iter().map(|ratio| format!("{ratio:.2}")).collect();
+        } = measure(calls, BOUNDED, LONG, lent);
         println!(
-            "| {name} | {} | {} | {} | {proved:.3} | {other:.3} | {} | {mean:.2} |",
+            "| {name} | {} | {} | {} | {proved:.3} | {other:.3} | {} |",
             calls.len(),
             counts.len(),
             counts.iter().max().unwrap_or(&0),
-            ratios.join(" ")
+            cells(ratio, moved.iter().map(|ratios| ratios[i].bounded))
         );
         ratio
     });
     let ratios = measured.collect();
     println!();
     ratios
+}
+
+/// Prints the table of the verdict without a bound. The last ratio is to the proved verdict with the calls' own bound.
+fn without_a_bound(kinds: &[Kind], lent: &mut Lent, moved: &[Vec<Ratios>]) {
+    println!(
+        "| generators | calls | yes | proved, ms | plain Rust, ms | ratios | mean | over n 1000 |"
+    );
+    println!("|---|---|---|---|---|---|---|---|");
+    for (i, Kind { name, calls }) in kinds.iter().enumerate() {
+        let answers = compare_all(calls, lent);
+        let yes = |(call, answer): &(&Call, &Answer)| {
+            compare_unbounded(call, lent, answer.verdict) == Ok(true)
+        };
+        let yes = calls.iter().zip(&answers).filter(yes).count();
+        let Measured {
+            proved,
+            other,
+            ratio,
+        } = measure(calls, UNBOUNDED, LONG, lent);
+        let over_bounded = measure(calls, OVER_BOUNDED, SHORT, lent).ratio;
+        println!(
+            "| {name} | {} | {yes} | {proved:.3} | {other:.3} | {} | {over_bounded:.2} |",
+            calls.len(),
+            cells(ratio, moved.iter().map(|ratios| ratios[i].unbounded))
+        );
+    }
+    println!();
 }
 
 /// Times over those of plain Rust that only counts. `ratios` are those of the proved verdict to plain Rust.
@@ -477,8 +599,8 @@ fn over_counting(kinds: &[Kind], lent: &mut Lent, ratios: &[f64]) {
     for (Kind { name, calls }, ratio) in kinds.iter().zip(ratios) {
         let none_calls = none_calls(calls, &compare_all(calls, lent));
         assert!(counts(&compare_all(&none_calls, lent)).is_empty());
-        let none = measure(&none_calls, counted, SHORT, lent);
-        let measured = measure(calls, counted, SHORT, lent);
+        let none = measure(&none_calls, OVER_COUNTING, SHORT, lent);
+        let measured = measure(calls, OVER_COUNTING, SHORT, lent);
         println!(
             "| {name} | {:.3} | {:.2} | {:.2} | {:.2} |",
             measured.other,
@@ -508,7 +630,7 @@ fn growth(
         let times = values.map(|value| {
             let calls = calls(generators, letters, value);
             compare_all(&calls, lent);
-            measure(&calls, plain, SHORT, lent).proved
+            measure(&calls, BOUNDED, SHORT, lent).proved
         });
         println!(
             "| {generators} of {letters} | {:.3} | {:.3} | {:.3} |",
@@ -551,7 +673,7 @@ fn over_m(lent: &mut Lent) -> Vec<plot::Line> {
     });
     for generators in (4..=32).step_by(4) {
         let calls = large_calls(FEW, generators, 10, WALK);
-        let Measured { proved, other, .. } = measure(&calls, plain, SHORT, lent);
+        let Measured { proved, other, .. } = measure(&calls, BOUNDED, SHORT, lent);
         let mut found = Vec::new();
         let walk = timed(|| found = calls.iter().map(Call::walked).collect());
         for (answer, series) in compare_all(&calls, lent).iter().zip(found) {
@@ -581,6 +703,8 @@ fn main() {
     let kinds = kinds();
     println!("## m 320, t 80; and powers of T = SR and U = SSR with products of them as targets: n 1000\n");
     let ratios = against_plain_rust(&kinds, &mut lent, &moved);
+    println!("## The same calls without a bound, and over the proved verdict with n 1000\n");
+    without_a_bound(&kinds, &mut lent, &moved);
     println!("## What the choice of the first series costs: times over that of counting\n");
     over_counting(&kinds, &mut lent, &ratios);
     println!("## Milliseconds of the proved verdict as m grows: t 80, n 1000\n");

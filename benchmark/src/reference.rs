@@ -1,10 +1,13 @@
 //! The bounded verdict in plain Rust, by the same method as the proved one: the questions, the reduced list, the tree of suffixes, the table of
 //! pairs filled by levels, the target's rows, the witness chosen among the entries that the target needs, and the zeroing. What the proved one passes
 //! over is passed over here too: rows without an entry of the level, a level that no entry lies above, rules that cannot lower anything, rows of choices
-//! where nothing is to be done. It proves nothing; it is what the benchmark measures against.
+//! where nothing is to be done. The verdict without a bound, made of the same parts, is in `closing`. It proves nothing; it is what the benchmark measures
+//! against.
 
+mod closing;
 mod witness;
 
+pub use closing::reachable;
 use witness::Counts;
 
 // Where a loop stands in the lines of the processor's cache moves its time by some percent. So the program is linked four times, with all functions from here on, the
@@ -44,9 +47,10 @@ const LARGEST_BOUND: u16 = 1000;
 pub enum Verdict {
     Member(u16),
     None,
-    /// The question's number and its place.
-    Refused(u8, usize),
 }
+
+/// The question's number and its place.
+pub type Refusal = (u8, usize);
 
 /// Writes the normal form to the front of `out`, and answers its length.
 fn reduce(word: &[u8], out: &mut [u8]) -> usize {
@@ -65,22 +69,22 @@ fn reduce(word: &[u8], out: &mut [u8]) -> usize {
 }
 
 /// Questions 7 to 10.
-fn of_list(bytes: &[u8], ends: &[u16], target: &[u8]) -> Result<(), Verdict> {
+fn of_list(bytes: &[u8], ends: &[u16], target: &[u8]) -> Result<(), Refusal> {
     if ends.len() > GENERATORS {
-        return Err(Verdict::Refused(7, 0));
+        return Err((7, 0));
     }
     if bytes.len() > LETTERS || target.len() > LETTERS {
-        return Err(Verdict::Refused(8, 0));
+        return Err((8, 0));
     }
     if let Some(i) = ends.windows(2).position(|pair| pair[1] < pair[0]) {
-        return Err(Verdict::Refused(9, i + 1));
+        return Err((9, i + 1));
     }
     if ends.last().map_or(0, |&end| end as usize) != bytes.len() {
-        return Err(Verdict::Refused(9, ends.len()));
+        return Err((9, ends.len()));
     }
     let other = |&letter: &u8| letter != R && letter != S;
     match bytes.iter().chain(target).position(other) {
-        Some(place) => Err(Verdict::Refused(10, place)),
+        Some(place) => Err((10, place)),
         None => Ok(()),
     }
 }
@@ -88,23 +92,25 @@ fn of_list(bytes: &[u8], ends: &[u16], target: &[u8]) -> Result<(), Verdict> {
 /// The generators reduced, one behind the other.
 struct List {
     letters: [u8; LIST_LETTERS],
-    ends: [u16; GENERATORS],
     len: usize,
+    ends: [u16; GENERATORS],
+    generators: usize,
 }
 
 /// Reduces the generators, which puts question 11.
-fn reduce_list(bytes: &[u8], ends: &[u16]) -> Result<List, Verdict> {
+fn reduce_list(bytes: &[u8], ends: &[u16]) -> Result<List, Refusal> {
     let mut list = List {
         letters: [0; LIST_LETTERS],
-        ends: [0; GENERATORS],
         len: 0,
+        ends: [0; GENERATORS],
+        generators: ends.len(),
     };
     let mut form = [0; LETTERS];
     let mut from = 0;
     for (i, &end) in ends.iter().enumerate() {
         let len = reduce(&bytes[from..end as usize], &mut form);
         if len > FORM || list.len + len > LIST_LETTERS {
-            return Err(Verdict::Refused(11, i));
+            return Err((11, i));
         }
         list.letters[list.len..list.len + len].copy_from_slice(&form[..len]);
         list.len += len;
@@ -112,6 +118,47 @@ fn reduce_list(bytes: &[u8], ends: &[u16]) -> Result<List, Verdict> {
         from = end as usize;
     }
     Ok(list)
+}
+
+/// What a call about a list and a target begins with: both reduced.
+struct Query {
+    list: List,
+    form: [u8; FORM],
+    len: usize,
+}
+
+/// Puts questions 7 to 12.
+fn pose(bytes: &[u8], ends: &[u16], target: &[u8]) -> Result<Query, Refusal> {
+    of_list(bytes, ends, target)?;
+    let list = reduce_list(bytes, ends)?;
+    let mut letters = [0; LETTERS];
+    let len = reduce(target, &mut letters);
+    if len > FORM {
+        return Err((12, 0));
+    }
+    let mut form = [0; FORM];
+    form[..len].copy_from_slice(&letters[..len]);
+    Ok(Query { list, form, len })
+}
+
+impl Query {
+    fn form(&self) -> &[u8] {
+        &self.form[..self.len]
+    }
+
+    fn tree(&self) -> Tree {
+        let list = &self.list;
+        Tree::build(&list.letters[..list.len], &list.ends[..list.generators])
+    }
+
+    /// How many entries of each table the call may write: q * q. Puts question 15.
+    fn room(&self, first: &[u16], second: &[u16]) -> Result<usize, Refusal> {
+        let q = self.list.len + 2 * self.len + 1;
+        if first.len() < q * q || second.len() < q * q {
+            return Err((15, 0));
+        }
+        Ok(q * q)
+    }
 }
 
 /// The tree of suffixes. Node 0 is the empty word; as a child, 0 means that there is none.
@@ -261,25 +308,37 @@ fn relax_pair(tree: &Tree, table: &mut [u16], x: usize, y: usize, k: u16) {
     }
 }
 
-/// Fills the table of pairs, up to the bound.
-fn fill(tree: &Tree, n: u16, table: &mut [u16]) {
-    let width = tree.count;
+/// Clears the table; rule A.
+fn start(tree: &Tree, n: u16, table: &mut [u16]) {
     table.fill(n + 1);
     for &whole in tree.wholes() {
         lower(&mut table[whole as usize], 1);
     }
-    let mut k = 1;
-    while k <= n && has(table, |entry| entry > k) {
-        for x in 0..width {
-            if !has(&table[x * width..(x + 1) * width], |entry| entry == k) {
-                continue;
-            }
-            for y in 0..width {
-                if table[x * width + y] == k {
-                    relax_pair(tree, table, x, y, k);
-                }
+}
+
+/// One pass over the pairs whose entry is k when their turn comes, from the first place to the last. Rows without such an entry are passed over.
+fn pass(tree: &Tree, k: u16, table: &mut [u16], visit: impl Fn(&mut [u16], usize, usize)) {
+    let width = tree.count;
+    for x in 0..width {
+        if !has(&table[x * width..(x + 1) * width], |entry| entry == k) {
+            continue;
+        }
+        for y in 0..width {
+            if table[x * width + y] == k {
+                visit(table, x, y);
             }
         }
+    }
+}
+
+/// Fills the table of pairs, up to the bound.
+fn fill(tree: &Tree, n: u16, table: &mut [u16]) {
+    start(tree, n, table);
+    let mut k = 1;
+    while k <= n && has(table, |entry| entry > k) {
+        pass(tree, k, table, |table, x, y| {
+            relax_pair(tree, table, x, y, k)
+        });
         // Every entry is treated alike, so that this loop too runs on many at once.
         let above = |&entry: &u16| if entry > k { entry } else { n + 1 };
         k = table.iter().map(above).fold(n + 1, u16::min);
@@ -312,18 +371,15 @@ fn path(target: &[u8], tree: &Tree, n: u16, table: &[u16], rows: &mut [u16]) {
     }
 }
 
-/// The verdict on a reduced target that is not empty, by a reduced list. The rows stand where the choices will; only where there is a series they are carried
-/// behind the pairs.
+/// The verdict on a target whose form is not empty. The rows stand where the choices will; only where there is a series they are carried behind the pairs.
 fn search(
-    list: &List,
-    ends: &[u16],
-    form: &[u8],
+    query: &Query,
     n: u16,
     first: &mut [u16],
     second: &mut [u16],
     witness: Option<&mut [u8]>,
 ) -> Verdict {
-    let tree = Tree::build(&list.letters[..list.len], ends);
+    let (tree, form) = (query.tree(), query.form());
     let (pairs, behind) = first.split_at_mut(tree.count * tree.count);
     let rows = &mut second[..(form.len() + 1) * tree.count];
     fill(&tree, n, pairs);
@@ -345,6 +401,17 @@ fn search(
     Verdict::Member(witness::write(&counts, &mut second[..entries], witness))
 }
 
+/// Questions 13 and 14.
+fn of_bound(n: u16, witness: Option<&[u8]>) -> Result<(), Refusal> {
+    if n > LARGEST_BOUND {
+        return Err((13, 0));
+    }
+    if witness.is_some_and(|witness| witness.len() < n as usize) {
+        return Err((14, 0));
+    }
+    Ok(())
+}
+
 /// Without a witness only the verdict and the count are found.
 pub fn judge(
     bytes: &[u8],
@@ -354,47 +421,16 @@ pub fn judge(
     first: &mut [u16],
     second: &mut [u16],
     witness: Option<&mut [u8]>,
-) -> Verdict {
-    if let Err(refused) = of_list(bytes, ends, target) {
-        return refused;
-    }
-    let list = match reduce_list(bytes, ends) {
-        Ok(list) => list,
-        Err(refused) => return refused,
-    };
-    let mut form = [0; LETTERS];
-    let len = reduce(target, &mut form);
-    let form = &form[..len];
-    if form.len() > FORM {
-        return Verdict::Refused(12, 0);
-    }
-    if n > LARGEST_BOUND {
-        return Verdict::Refused(13, 0);
-    }
-    if witness
-        .as_ref()
-        .is_some_and(|witness| witness.len() < n as usize)
-    {
-        return Verdict::Refused(14, 0);
-    }
-    let q = list.len + 2 * form.len() + 1;
-    if first.len() < q * q || second.len() < q * q {
-        return Verdict::Refused(15, 0);
-    }
-    let verdict = if form.is_empty() {
+) -> Result<Verdict, Refusal> {
+    let query = pose(bytes, ends, target)?;
+    of_bound(n, witness.as_deref())?;
+    let room = query.room(first, second)?;
+    let verdict = if query.form().is_empty() {
         Verdict::Member(0)
     } else {
-        search(
-            &list,
-            &list.ends[..ends.len()],
-            form,
-            n,
-            first,
-            second,
-            witness,
-        )
+        search(&query, n, first, second, witness)
     };
-    first[..q * q].fill(0);
-    second[..q * q].fill(0);
-    verdict
+    first[..room].fill(0);
+    second[..room].fill(0);
+    Ok(verdict)
 }
