@@ -289,9 +289,9 @@ class Questions(Asking):
         self.assert_refused(9, 2, listed, b"RSS", [1, 2])
         self.assert_refused(9, 2, listed, b"RSS", [2, 4])
         self.assert_refused(9, 0, listed, b"RSS", [])
-        self.assert_refused(9, 1, listed, b"XXX", [2])
-        self.assert_refused(7, 0, listed, b"XXX", [1] * 65)
-        self.assert_refused(8, 0, listed, b"XXX", [1], b"X" * 4097)
+        self.assert_refused(9, 1, listed, b"TTT", [2])
+        self.assert_refused(7, 0, listed, b"TTT", [1] * 65)
+        self.assert_refused(8, 0, listed, b"TTT", [1], b"T" * 4097)
 
     def test_verdict(self):
         def asked(generators, target, n=1001, tables=(0, 0), room=0):
