@@ -8,6 +8,7 @@ use lib.ListN.{length, take, drop, length-append, length-take, length-drop, List
 use lib.Seq.{length-take-le, getD-take, getD-drop, getD-append-add}
 use borrow.Rule.Slice.PartMut.{putMid}
 use Rattle.trees.specs.Tree.{at}
+use Rattle.tables.proofs.Parts.{part as anyPart, part-at as any-at}
 
 -- row v of a table of w rows ends within it
 pub row-inside : (v w : ℕ) → v < w → v * w + w ≤ w * w
@@ -15,11 +16,11 @@ row-inside v w h = omega (arith, mul-le-mul-right w h)
 
 -- the part of `size` entries from `start` on
 abbrev pub part : List ℕ → ℕ → ℕ → List ℕ
-part l start size = take (start + size - start) (drop start l)
+part l start size = anyPart l start (start + size)
 
 module _ (l : List ℕ) (start size : ℕ) where
   pub part-at : (p : ℕ) → p < size → at (part l start size) p ≡ at l (start + p)
-  part-at p h = getD-take (start + size - start) (drop start l) p 0 (omega arith) ∙ getD-drop start l p 0
+  part-at p h = any-at l start (start + size) p (omega arith)
 
   module _ (room : start + size ≤ length l) where
     pub part-length : length (part l start size) ≡ size

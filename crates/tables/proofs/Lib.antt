@@ -1,4 +1,5 @@
 pub mod Places
+pub mod Parts
 pub mod Leading
 mod Finding
 mod Steps

@@ -1,6 +1,6 @@
 -- What follows from a pass in which place after place is visited, whatever a visit does, and where places are visited at a level. Assumes, where it says so,
 -- that the rules lead forward.
-use mathlib.Core.Path.{refl, subst}
+use mathlib.Core.Path.{_≡_, refl, sym, subst}
 use mathlib.Core.List.{List}
 use Prim.Native.Nat.{ℕ, _+_, _*_, _≤_, _<_}
 use native.Mathlib.Nat.{le-refl}
@@ -13,8 +13,10 @@ use Rattle.levels.specs.Levels.{entry, Rules}
 use Rattle.levels.specs.Passes.{Bounded, Counts, Sound, Premise, Forward, Passed}
 use Rattle.levels.proofs.Relaxing.{lowers-falls, relaxed-already}
 use Rattle.levels.proofs.Passing.{bounded-relaxed, counts-relaxed, pass-skips, pass-relaxes, pass-sound}
+use Rattle.tables.specs.Rules.{place, nextPair}
 use Rattle.tables.specs.Relaxing.{Ready}
 use Rattle.tables.specs.Levelling.{Visited, relaxed, skipped, Passes, begin, visit}
+use Rattle.tables.proofs.Places.{next-stands}
 use Rattle.tables.proofs.Steps.{ready-bounded}
 
 -- ---- whatever a visit does
@@ -46,6 +48,13 @@ module _ {Visits : ℕ → List ℕ → List ℕ → Type 0} where
       z′
       later
       same
+
+  -- Places are passed over up to a pair, and the pair is visited: the pass has come to the pair after it.
+  pub passes-next : (width row column p q : ℕ) {from : ℕ} {t t′ t″ : List ℕ} → column < width → (p, q) ≡ nextPair width row column
+      → from ≤ place width row column → ((m : ℕ) → from ≤ m → m < place width row column → Visits m t′ t′) → Visits (place width row column) t′ t″
+      → Passes Visits from t t′ → Passes Visits (place width p q) t t″
+  passes-next width row column p q {t = t} {t″ = t″} below is later same last run =
+      subst (λ (z : ℕ). Passes Visits z t t″) (sym (next-stands width row column below is .1)) (visit (passes-over later same run) last)
 
 -- ---- at a level
 

@@ -1,11 +1,11 @@
 // Nodes of the tree and pairs of them. A node is a number below `count`; any other number stands for no node.
 use trees::entries::entry;
 ghost use mathlib.Core.Path.{_≡_};
-ghost use Prim.Native.Nat.{_+_, _*_, _≤_, _<_};
+ghost use Prim.Native.Nat.{_+_, _*_, _^_, _≤_, _<_};
 ghost use lib.ListN.{length};
 ghost use Rattle.refusals.specs.Telling.{Tells};
 ghost use Rattle.trees.specs.Tree.{mostOfEntry};
-ghost use Rattle.tables.specs.Rules.{place};
+ghost use Rattle.tables.specs.Rules.{place, nextPair};
 ghost use Rattle.tables.specs.Nodes.{Finds, Noted, Begins, Front};
 
 // The child of p, where it has one.
@@ -64,22 +64,18 @@ pub(crate) struct Pair {
     pub(crate) column: usize,
 }
 
-// The pair at the next place. Behind the last pair of all comes the first of the row one past the end.
-pub(crate) fn next_pair(pair: Pair, count: usize) -> Pair
-    requires { ⌜ count ≤ mostOfEntry ⌝ }
-    requires { ⌜ pair .row < count ⌝ }
-    requires { ⌜ pair .column < count ⌝ }
-    ensures { λ r. ⌜ (place count (r .row) (r .column) ≡ place count (pair .row) (pair .column) + 1) × (r .column < count) ⌝ }
+// The pair after a pair, in a table with `width` columns: nothing is divided, and one comparison tells whether the row is carried.
+pub(crate) fn next_pair(pair: Pair, width: usize) -> Pair
+    requires { ⌜ (pair .row + 1 < 2 ^ 64) × (pair .column + 1 < 2 ^ 64) ⌝ }
+    ensures { λ r. ⌜ (r .row, r .column) ≡ nextPair width (pair .row) (pair .column) ⌝ }
 {
     let column = pair.column + 1;
-    if column < count {
+    if column < width {
         return Pair {
             row: pair.row,
             column,
         };
     }
-    Pair {
-        row: pair.row + 1,
-        column: 0,
-    }
+    let row = pair.row + 1;
+    Pair { row, column: 0 }
 }

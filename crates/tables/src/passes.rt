@@ -100,7 +100,21 @@ fn find(table: &[u16], from: usize, last: usize, k: Factors) -> usize
     last
 }
 
-// The first column from y on in row x where the entry is k, or the last column. Most rows have no such entry, which `absent` tells sooner.
+// The first column from y on where the row's entry is k, or the last column. Most rows have no such entry, which `absent` tells sooner.
+fn seek_in(row: &[u16], y: usize, k: Factors) -> usize
+    requires { ⌜ y < length (now row) ⌝ }
+    ensures { λ r. ⌜ Sought (k .0) (now (row .entry)) y (length (now (row .entry)) - 1) r ⌝ }
+{
+    let last = row.len() - 1;
+    if y == 0 {
+        if absent(row, 0, row.len(), k, k) {
+            return last;
+        }
+    }
+    find(row, y, last, k)
+}
+
+// The same in row x of the table.
 pub(crate) fn seek(table: &[u16], count: usize, x: usize, y: usize, k: Factors) -> usize
     requires { ⌜ Ready count (k .0) (now table) ⌝ }
     requires { ⌜ x < count ⌝ }
@@ -108,12 +122,8 @@ pub(crate) fn seek(table: &[u16], count: usize, x: usize, y: usize, k: Factors) 
     ensures { λ r. ⌜ Sought (k .0) (now (table .entry)) (place count x y) (place count x (count - 1)) (place count x r) ⌝ }
 {
     let row = place_of(count, x, 0);
-    if y == 0 {
-        if absent(table, row, row + count, k, k) {
-            return count - 1;
-        }
-    }
-    find(table, row + y, row + count - 1, k) - row
+    let end = row + count;
+    seek_in(&table[row..end], y, k)
 }
 
 // One pass at the level k. Where no entry lies above k it would lower none: so the last level costs nothing where each pair is led to. Visits of the

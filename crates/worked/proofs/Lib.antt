@@ -1,3 +1,4 @@
+pub mod Pairs
 pub mod Refused
 pub mod Trying
 pub mod Values

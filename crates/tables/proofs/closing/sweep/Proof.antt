@@ -2,10 +2,10 @@
 use mathlib.Core.Path.{_≡_, refl, sym, subst, _∙_}
 use Prim.Native.Nat.{ℕ, _*_, _-_, _≤_, _<_}
 use Rattle.tables.specs.Rules.{place, Rule}
-use Rattle.tables.specs.Levelling.{Passes, begin, visit}
+use Rattle.tables.specs.Levelling.{Passes, begin}
 use Rattle.tables.specs.Closing.{Used, skipped}
-use Rattle.tables.proofs.Places.{place-inside, place-past}
-use Rattle.tables.proofs.Visiting.{passes-ready, passes-over}
+use Rattle.tables.proofs.Places.{place-inside, place-past, next-stands}
+use Rattle.tables.proofs.Visiting.{passes-ready, passes-next}
 use Rattle.tables.proofs.Using.{used-bounded}
 use native.Mathlib.Omega.{arith}
 use Rattle.tables.proofs.closing.sweep.Statement.{statement}
@@ -49,9 +49,8 @@ next-pair-requires : tie.Need-next-pair-requires Inv-loop μ-loop
 next-pair-requires c κs =
     let at-seek = c .before .before .before .before in
     let at-if1 = at-seek .before .before in
-    let start = entered (at-if1 .before .before) in
-    let p = start .pre in
-    (p .0 .few, (at-if1 .if1 .taken, omega (arith, at-seek .seek .ensures .inside, p .1 .1)))
+    let p = entered (at-if1 .before .before) .pre in
+    (omega (arith, at-if1 .if1 .taken, p .0 .few), omega (arith, at-seek .seek .ensures .inside, p .0 .few, p .1 .1))
 
 loop-less : tie.Need-loop-less Inv-loop μ-loop
 loop-less c =
@@ -61,8 +60,10 @@ loop-less c =
     let start = entered at-loop in
     let count = start .args .count in
     let l = at-loop .loop in
+    let sought = at-seek .seek .ensures in
     let inside : place count (l .pair .row) (l .pair .column) < count * count = place-inside (at-if1 .if1 .taken) (l .inv .0) in
-    omega (arith, c .next-pair .ensures .0, at-seek .seek .ensures .behind)
+    let column : at-seek .seek .result < count = omega (arith, sought .inside, start .pre .1 .1) in
+    omega (arith, next-stands count (l .pair .row) (at-seek .seek .result) column (c .next-pair .ensures) .1, sought .behind)
 
 loop-again : tie.Need-loop-again Inv-loop μ-loop
 loop-again c =
@@ -71,17 +72,19 @@ loop-again c =
     let at-if1 = at-seek .before .before in
     let at-loop = at-if1 .before .before in
     let start = entered at-loop in
-    let a = start .args in
+    let count = start .args .count in
     let l = at-loop .loop in
+    let x = l .pair .row in
+    let y = at-seek .seek .result in
+    let next = c .next-pair in
     let sought = at-seek .seek .ensures in
-    let rules = Rule (a .count) (a .letters .now) (a .rests .now) in
-    let last : place (a .count) (l .pair .row) (a .count - 1) < a .count * a .count = place-inside (at-if1 .if1 .taken) (omega (arith, start .pre .1 .1)) in (
-      c .next-pair .ensures .1,
-      omega (arith, c .next-pair .ensures .0, sought .inside),
-      subst (λ (z : ℕ). Passes (Used rules) z (a .table .now) (at-use-pair .use-pair .last .0)) (sym (c .next-pair .ensures .0))
-          (visit
-          (passes-over (sought .behind) (λ m behind inside. skipped (λ fresh. sought .without m inside behind (omega arith) (omega arith)) refl) (l .inv .2))
-          (at-use-pair .use-pair .ensures)),
+    let column : y < count = omega (arith, sought .inside, start .pre .1 .1) in
+    let here : place count x y < count * count = place-inside (at-if1 .if1 .taken) column in
+    let (below, place-next) = next-stands count x y column (next .ensures) in (
+      below,
+      omega (arith, place-next, here),
+      passes-next count x y (next .result .row) (next .result .column) column (next .ensures) (sought .behind)
+          (λ m behind inside. skipped (λ fresh. sought .without m inside behind (omega arith) (omega arith)) refl) (at-use-pair .use-pair .ensures) (l .inv .2),
     )
 
 same-length : tie.Need-same-length Inv-loop μ-loop

@@ -3,9 +3,9 @@
 use mathlib.Core.Path.{_≡_, refl, sym, subst, _∙_}
 use Prim.Native.Nat.{ℕ, _*_, _-_, _≤_, _<_}
 use Rattle.tables.specs.Rules.{place, Rule}
-use Rattle.tables.specs.Levelling.{Visited, skipped, Passes, begin, visit}
-use Rattle.tables.proofs.Places.{place-inside, place-past}
-use Rattle.tables.proofs.Visiting.{passes-ready, passes-over, visited-bounded, passes-low}
+use Rattle.tables.specs.Levelling.{Visited, skipped, Passes, begin}
+use Rattle.tables.proofs.Places.{place-inside, place-past, next-stands}
+use Rattle.tables.proofs.Visiting.{passes-ready, passes-next, visited-bounded, passes-low}
 use Rattle.levels.specs.Levels.{entry}
 use Rattle.refusals.proofs.Telling.{told}
 use native.Mathlib.Decide.{decLt}
@@ -77,9 +77,8 @@ next-pair-requires : tie.Need-next-pair-requires Inv-loop μ-loop
 next-pair-requires c κs =
     let at-seek = c .before .before .before .before in
     let at-if2 = at-seek .before .before in
-    let start = entered (at-if2 .before .before) in
-    let p = start .pre in
-    (p .0 .few, (at-if2 .if2 .taken, omega (arith, at-seek .seek .ensures .inside, p .1 .1)))
+    let p = entered (at-if2 .before .before) .pre in
+    (omega (arith, at-if2 .if2 .taken, p .0 .few), omega (arith, at-seek .seek .ensures .inside, p .0 .few, p .1 .1))
 
 loop-less : tie.Need-loop-less Inv-loop μ-loop
 loop-less c =
@@ -89,8 +88,10 @@ loop-less c =
     let start = entered at-loop in
     let count = start .args .count in
     let l = at-loop .loop in
+    let sought = at-seek .seek .ensures in
     let inside : place count (l .pair .row) (l .pair .column) < count * count = place-inside (at-if2 .if2 .taken) (l .inv .0) in
-    omega (arith, c .next-pair .ensures .0, at-seek .seek .ensures .behind)
+    let column : at-seek .seek .result < count = omega (arith, sought .inside, start .pre .1 .1) in
+    omega (arith, next-stands count (l .pair .row) (at-seek .seek .result) column (c .next-pair .ensures) .1, sought .behind)
 
 loop-again : tie.Need-loop-again Inv-loop μ-loop
 loop-again c =
@@ -99,17 +100,19 @@ loop-again c =
     let at-if2 = at-seek .before .before in
     let at-loop = at-if2 .before .before in
     let start = entered at-loop in
-    let a = start .args in
+    let count = start .args .count in
     let l = at-loop .loop in
+    let x = l .pair .row in
+    let y = at-seek .seek .result in
+    let next = c .next-pair in
     let sought = at-seek .seek .ensures in
-    let rules = Rule (a .count) (a .letters .now) (a .rests .now) in
-    let last : place (a .count) (l .pair .row) (a .count - 1) < a .count * a .count = place-inside (at-if2 .if2 .taken) (omega (arith, start .pre .1 .1)) in (
-      c .next-pair .ensures .1,
-      omega (arith, c .next-pair .ensures .0, sought .inside),
-      subst (λ (z : ℕ). Passes (Visited rules (a .k .0)) z (a .table .now) (at-visit .visit .last .0)) (sym (c .next-pair .ensures .0))
-          (visit
-          (passes-over (sought .behind) (λ m behind inside. skipped (λ level. sought .without m inside behind (omega arith) (omega arith)) refl) (l .inv .2))
-          (at-visit .visit .ensures)),
+    let column : y < count = omega (arith, sought .inside, start .pre .1 .1) in
+    let here : place count x y < count * count = place-inside (at-if2 .if2 .taken) column in
+    let (below, place-next) = next-stands count x y column (next .ensures) in (
+      below,
+      omega (arith, place-next, here),
+      passes-next count x y (next .result .row) (next .result .column) column (next .ensures) (sought .behind)
+          (λ m behind inside. skipped (λ level. sought .without m inside behind (omega arith) (omega arith)) refl) (at-visit .visit .ensures) (l .inv .2),
     )
 
 same-length-2 : tie.Need-same-length-2 Inv-loop μ-loop
