@@ -7,7 +7,7 @@ pub mod Candidates
 pub mod Best
 pub mod Halfway
 pub mod Places
-pub mod Ranks
+pub mod Lowering
 pub mod Marks
 pub mod MarkSweeps
 pub mod ItemChoices

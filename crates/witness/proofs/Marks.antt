@@ -21,9 +21,9 @@ use Rattle.derivations.specs.declared.Parts.{Parts}
 use Rattle.derivations.specs.declared.Parts.the-variants.{One, Two, Nothing}
 use Rattle.derivations.proofs.Ways.{no-more-ways}
 use Rattle.witness.specs.Choices.{needed, marked, choiceAt, cells, Item}
-use Rattle.witness.specs.Marking.{PartsWithin, withNeed, withNeeds, rank, Wanted, PartsWanted, Closed, Grows, MarksWay, Marks}
+use Rattle.witness.specs.Marking.{PartsWithin, withNeed, withNeeds, Lower, Wanted, PartsWanted, Closed, Grows, MarksWay, Marks}
 use Rattle.witness.proofs.Places.{same-or-other, of-same, item-place, choice-stored, choice-elsewhere, keeps-none, keeps-then, keeps-stored}
-use Rattle.witness.proofs.Ranks.{Lower, PartsLower, tight-lower}
+use Rattle.witness.proofs.Lowering.{PartLower, PartsLower, tight-lower}
 
 -- ---- one item becomes needed
 
@@ -40,10 +40,10 @@ module _ (count : ℕ) (choices : List ℕ) (x y : ℕ) where
 -- ---- growth
 
 module _ (w : World) where
-  module _ (bound : ℕ) where
+  module _ (x y : ℕ) where
     -- how the choice of an item may change
     abbrev pub Change : ℕ → ℕ → ℕ → ℕ → Type 0
-    Change a b before after = (after ≡ before) ⊎ ((before ≡ 0) × (after ≡ needed) × (rank w a b < bound))
+    Change a b before after = (after ≡ before) ⊎ ((before ≡ 0) × (after ≡ needed) × Lower w x y a b)
 
     change-then : (a b before between after : ℕ) → Change a b before between → Change a b between after → Change a b before after
     change-then a b before between after (inl same) (inl same′) = inl (same′ ∙ same)
@@ -51,10 +51,10 @@ module _ (w : World) where
     change-then a b before between after (inr (none, new, low)) (inl same) = inr (none, same ∙ new, low)
     change-then a b before between after (inr (none, new, low)) (inr (none′, new′, low′)) = inr (none, new′, low′)
 
-    grows-none : {choices : List ℕ} → Grows w bound choices choices
+    grows-none : {choices : List ℕ} → Grows w x y choices choices
     grows-none = record { keeps = keeps-none w; each = λ a b item. inl refl }
 
-    grows-then : {before between after : List ℕ} → Grows w bound before between → Grows w bound between after → Grows w bound before after
+    grows-then : {before between after : List ℕ} → Grows w x y before between → Grows w x y between after → Grows w x y before after
     grows-then {before} {between} {after} first second =
         record {
           keeps = keeps-then w (first .keeps) (second .keeps);
@@ -64,16 +64,16 @@ module _ (w : World) where
         }
 
     -- an item that was not wanted becomes needed
-    grows-new : (choices : List ℕ) (x y : ℕ) → cells w ≤ length choices → Item w x y → rank w x y < bound → choiceAt (w .count) choices x y ≡ 0
-        → Grows w bound choices (set choices (place (w .count) (x - 1) y) needed)
-    grows-new choices x y room item low none =
+    grows-new : (choices : List ℕ) (a b : ℕ) → cells w ≤ length choices → Item w a b → Lower w x y a b → choiceAt (w .count) choices a b ≡ 0
+        → Grows w x y choices (set choices (place (w .count) (a - 1) b) needed)
+    grows-new choices a b room item low none =
         record {
-          keeps = keeps-stored w choices x y needed item;
-          each = λ a b other. elim (same-or-other x y a b) [
+          keeps = keeps-stored w choices a b needed item;
+          each = λ m n other. elim (same-or-other a b m n) [
             | inl same ↦
-                of-same (λ (m n : ℕ). Change m n (choiceAt (w .count) choices m n) (choiceAt (w .count) (set choices (place (w .count) (x - 1) y) needed) m n)) x y a b
-                same (inr (none, choice-stored w choices x y needed room item, low))
-            | inr differ ↦ inl (choice-elsewhere w choices x y needed a b item other differ)
+                of-same (λ (m n : ℕ). Change m n (choiceAt (w .count) choices m n) (choiceAt (w .count) (set choices (place (w .count) (a - 1) b) needed) m n))
+                a b m n same (inr (none, choice-stored w choices a b needed room item, low))
+            | inr differ ↦ inl (choice-elsewhere w choices a b needed m n item other differ)
           ];
         }
 
@@ -99,13 +99,13 @@ module _ (w : World) where
     pub closed-more : (x y : ℕ) → Closed w choice x y → Closed w choice′ x y
     closed-more x y closed = λ d candidate. tight-wanted-more x y (partsIn w x y d) (candidate .tight) (closed d candidate)
 
-  change-wanted : (a b bound before after : ℕ) → Change bound a b before after → 1 ≤ before → 1 ≤ after
-  change-wanted a b bound before after (inl same) some = omega arith
-  change-wanted a b bound before after (inr (none, new, low)) some = absurd (omega arith)
+  change-wanted : (x y a b before after : ℕ) → Change x y a b before after → 1 ≤ before → 1 ≤ after
+  change-wanted x y a b before after (inl same) some = omega arith
+  change-wanted x y a b before after (inr (none, new, low)) some = absurd (omega arith)
 
-  pub grows-more : {bound : ℕ} {before after : List ℕ} → Grows w bound before after → More (choiceAt (w .count) before) (choiceAt (w .count) after)
-  grows-more {bound} {before} {after} grows a b item =
-      change-wanted a b bound (choiceAt (w .count) before a b) (choiceAt (w .count) after a b) (grows .each a b item)
+  pub grows-more : {x y : ℕ} {before after : List ℕ} → Grows w x y before after → More (choiceAt (w .count) before) (choiceAt (w .count) after)
+  grows-more {x} {y} {before} {after} grows a b item =
+      change-wanted x y a b (choiceAt (w .count) before a b) (choiceAt (w .count) after a b) (grows .each a b item)
 
   -- ---- the parts of an item become needed
 
@@ -118,32 +118,34 @@ module _ (w : World) where
 
     -- growth after which the part is wanted
     abbrev Need : List ℕ → ℕ → ℕ → List ℕ → Type 0
-    Need before a b after = Grows w (rank w x y) before after × Wanted (choiceAt (w .count) after) a b
+    Need before a b after = Grows w x y before after × Wanted (choiceAt (w .count) after) a b
 
-    need-one : (choices : List ℕ) (a b : ℕ) → cells w ≤ length choices → Lower w x y a b → Need choices a b (withNeed (w .count) choices a b)
+    need-one : (choices : List ℕ) (a b : ℕ) → cells w ≤ length choices → PartLower w x y a b → Need choices a b (withNeed (w .count) choices a b)
     need-one choices a b room lower =
         elim (ℕ-discrete a 0) [
-          | yes factor ↦ subst (Need choices a b) (sym (need-factor (w .count) choices a b factor)) (grows-none (rank w x y), inl factor)
+          | yes factor ↦ subst (Need choices a b) (sym (need-factor (w .count) choices a b factor)) (grows-none x y, inl factor)
           | no other ↦ elim (ℕ-discrete (choiceAt (w .count) choices a b) 0) [
             | yes new ↦
                 let (item, low) = lower (omega (arith, other)) in
                 subst (Need choices a b) (sym (need-new (w .count) choices a b other new)) (
-                  grows-new (rank w x y) choices a b room item low new,
+                  grows-new x y choices a b room item low new,
                   inr (rw (choice-stored w choices a b needed room item) (omega arith)),
                 )
             | no wanted ↦
-                subst (Need choices a b) (sym (need-wanted (w .count) choices a b other wanted)) (grows-none (rank w x y), inr (omega (arith, wanted)))
+                subst (Need choices a b) (sym (need-wanted (w .count) choices a b other wanted)) (grows-none x y, inr (omega (arith, wanted)))
           ]
         ]
 
     need-all : (choices : List ℕ) (ps : Parts) → cells w ≤ length choices → PartsLower w x y ps
-        → Grows w (rank w x y) choices (withNeeds (w .count) choices ps) × PartsWanted (choiceAt (w .count) (withNeeds (w .count) choices ps)) ps
+        → Grows w x y choices (withNeeds (w .count) choices ps) × PartsWanted (choiceAt (w .count) (withNeeds (w .count) choices ps)) ps
     need-all choices (One a b) room lower = need-one choices a b room lower
     need-all choices (Two a b c d) room lower =
         let (grows, wanted) = need-one choices a b room (lower .0) in
         let between = withNeed (w .count) choices a b in
         let (grows′, wanted′) = need-one between c d (omega (arith, grows .keeps .long)) (lower .1) in
-        (grows-then (rank w x y) grows grows′, (wanted-more (choiceAt (w .count) between) (choiceAt (w .count) (withNeed (w .count) between c d)) (grows-more grows′) a b (λ h. lower .0 h .0) wanted, wanted′))
+        let after = withNeed (w .count) between c d in
+        let still = wanted-more (choiceAt (w .count) between) (choiceAt (w .count) after) (grows-more grows′) a b (λ h. lower .0 h .0) wanted in
+        (grows-then x y grows grows′, (still, wanted′))
     need-all choices Nothing room lower = absurd lower
 
     -- the way d, where its parts are tight and where not
@@ -154,33 +156,35 @@ module _ (w : World) where
         subst (MarksWay w x y d before r) (sym written) record { grows = grows; wanted = λ t. wanted; decided = λ e. (tight, alone e) }
 
     pub marks-loose : {choices : List ℕ} (d : ℕ) → (Tight (weightIn w) x y (partsIn w x y d) → ⊥) → MarksWay w x y d choices false choices
-    marks-loose d loose = record { grows = grows-none (rank w x y); wanted = λ t. absurd (loose t); decided = λ e. absurd (false≢true e) }
+    marks-loose d loose = record { grows = grows-none x y; wanted = λ t. absurd (loose t); decided = λ e. absurd (false≢true e) }
 
     -- ---- all ways below d
 
     -- the parts in ways below d are wanted where they are tight
     pub record WaysMarked (d : ℕ) (before after : List ℕ) : Type 0 where
-      pub grows : Grows w (rank w x y) before after
+      pub grows : Grows w x y before after
       pub wanted : (e : ℕ) → e < d → Tight (weightIn w) x y (partsIn w x y e) → PartsWanted (choiceAt (w .count) after) (partsIn w x y e)
 
     pub ways-none : {choices : List ℕ} → WaysMarked 0 choices choices
-    ways-none = record { grows = grows-none (rank w x y); wanted = λ e below. absurd (omega arith) }
+    ways-none = record { grows = grows-none x y; wanted = λ e below. absurd (omega arith) }
 
     pub ways-more : {before between after : List ℕ} {r : Bool} (d : ℕ) → WaysMarked d before between → MarksWay w x y d between r after
         → WaysMarked (d + 1) before after
     ways-more {between} {after} d so-far way =
         record {
-          grows = grows-then (rank w x y) (so-far .grows) (way .grows);
+          grows = grows-then x y (so-far .grows) (way .grows);
           wanted = λ e below tight. elim (ℕ-discrete e d) [
             | yes same ↦ rw same (way .wanted (subst (λ (m : ℕ). Tight (weightIn w) x y (partsIn w x y m)) same tight))
-            | no other ↦ tight-wanted-more (choiceAt (w .count) between) (choiceAt (w .count) after) (grows-more (way .grows)) x y (partsIn w x y e) tight (so-far .wanted e (omega (arith, other)) tight)
+            | no other ↦
+                tight-wanted-more (choiceAt (w .count) between) (choiceAt (w .count) after) (grows-more (way .grows)) x y (partsIn w x y e) tight
+                (so-far .wanted e (omega (arith, other)) tight)
           ];
         }
 
     -- the item was marked first, and is decided by the way d, or there are no more
     module _ (before : List ℕ) {first after : List ℕ} (item : first ≡ set before (place (w .count) (x - 1) y) marked) where
-      grown : Grows w (rank w x y) first after → Grows w (rank w x y) (set before (place (w .count) (x - 1) y) marked) after
-      grown grows = subst (λ (l : List ℕ). Grows w (rank w x y) l after) item grows
+      grown : Grows w x y first after → Grows w x y (set before (place (w .count) (x - 1) y) marked) after
+      grown grows = subst (λ (l : List ℕ). Grows w x y l after) item grows
 
       pub ways-decided : {between : List ℕ} {r : Bool} (d : ℕ) → WaysMarked d first between → MarksWay w x y d between r after → r ≡ true
           → Marks w x y before after

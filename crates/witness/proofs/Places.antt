@@ -1,6 +1,7 @@
 -- Where the choices of items stand: each inside the table, and different items at different places.
 --     same-or-other, of-same           two items are compared
---     row-place, row-end, whole-cells, item-place    the choice of an item is one of the cells
+--     row-place, whole-cells, item-place    the choice of an item is one of the cells
+--     item-weight, item-swept, lower-place, same-place, stands-row, stands-item    items by their places, which a sweep goes by
 --     choice-stored, choice-elsewhere  a choice that is set, and the others
 --     keeps-none, keeps-then, keeps-stored, small-kept    what remains while choices are set
 -- Assumes nothing.
@@ -8,18 +9,22 @@ use mathlib.Core.Logic.{_⊎_, inl, inr}
 use mathlib.Core.Path.{_≡_, refl, sym, ap, subst, _∙_}
 use mathlib.Core.List.{List}
 use Prim.Native.Nat.{ℕ, zero, suc, _+_, _-_, _*_, _≤_, _<_}
-use native.Mathlib.Decide.{ℕ-discrete}
+use native.Mathlib.Decide.{decLt, ℕ-discrete}
 use native.Mathlib.Nat.{mul-le-mul-right}
 use native.Mathlib.Omega.{arith}
 use lib.Arith.{digits-lt}
-use lib.ListN.{length, set, length-set}
+use lib.ListN.{length, set, length-set, List·getD-eq-default}
 use lib.Seq.{drop-set-lt, getD-set-same, getD-set-other}
+use borrow.Author.Tests.{lt-ltb, le-ltb}
+use Rattle.trees.specs.Tree.{at, mostOfEntry}
 use Rattle.tables.specs.Rules.{place}
-use Rattle.tables.proofs.Places.{same-row, same-column}
-use Rattle.derivations.specs.Ways.{World, whole}
+use Rattle.tables.proofs.Places.{same-row, same-column, place-earlier}
+use Rattle.derivations.specs.Ways.{World, weightIn, whole}
 use Rattle.derivations.proofs.Ways.{item-inside}
 use Rattle.witness.specs.Choices.{choiceAt, cells, Item, Small}
 use Rattle.witness.specs.Marking.{Keeps}
+use Rattle.witness.specs.Due.{StandsAt}
+use Rattle.witness.specs.Sweeping.{placeOf, swept}
 
 -- it is the same item, or it is not
 abbrev pub Same : ℕ → ℕ → ℕ → ℕ → Type 0
@@ -51,17 +56,71 @@ module _ (w : World) where
   row-place x y some row column =
       let inside : x - 1 < w .count + suc (length (w .target)) = omega arith in digits-lt inside column
 
-  pub row-end : (x : ℕ) → 1 ≤ x → x ≤ whole w → place (w .count) (x - 1) (w .count) ≤ cells w
-  row-end x some row =
-      let inside : suc (x - 1) ≤ w .count + suc (length (w .target)) = omega arith in
-      let rows : suc (x - 1) * w .count ≤ cells w = mul-le-mul-right (w .count) inside in
-      omega arith
-
   pub whole-cells : (x : ℕ) → x ≡ whole w → x * w .count ≡ cells w
   whole-cells x last = ap (λ (m : ℕ). m * w .count) last ∙ omega arith
 
   pub item-place : (x y : ℕ) → Item w x y → place (w .count) (x - 1) y < cells w
   item-place x y item = row-place x y (item .0) (item-row x y item) (item-column x y item)
+
+  -- the row of the first number p + 1 is row p
+  row-behind : (p y : ℕ) → at (w .counts) (place (w .count) p y) ≡ at (w .counts) (placeOf w (suc p) y)
+  row-behind p y = ap (λ (m : ℕ). at (w .counts) (place (w .count) m y)) (omega arith)
+
+  -- what an item weighs is its count, which the counts have
+  pub item-weight : (x y : ℕ) → Item w x y → weightIn w x y ≡ at (w .counts) (placeOf w x y)
+  item-weight zero y item = absurd (omega (arith, item .0))
+  item-weight (suc p) y item = item-inside w p y (item .1) .2 ∙ row-behind p y
+
+  pub item-swept : (x y : ℕ) → Item w x y → placeOf w x y < swept w
+  item-swept x y item =
+      let weighs = item-weight x y item in
+      let some = item .1 in
+      let has : placeOf w x y < length (w .counts) =
+      elim (decLt (placeOf w x y) (length (w .counts))) [
+        | yes inside ↦ inside
+        | no past ↦ absurd (omega (arith, List·getD-eq-default (w .counts) 0 {n = placeOf w x y} (omega arith)))
+      ] in
+      omega (arith, item-place x y item, has)
+
+  -- an item with a lower first number stands before all that have the higher one
+  pub lower-place : (x y a b : ℕ) → a < x → Item w a b → placeOf w a b < placeOf w x y
+  lower-place x y a b first item =
+      let some = item .0 in place-earlier y (omega arith) (item-column a b item)
+
+  pub same-place : (x y a b : ℕ) → Item w x y → Item w a b → placeOf w a b ≡ placeOf w x y → Same x y a b
+  same-place x y a b item other same =
+      let row : a - 1 ≡ x - 1 = same-row (a - 1) (x - 1) (item-column a b other) (item-column x y item) same in
+      let first = item .0 in
+      let first-other = other .0 in
+      (omega arith, same-column (a - 1) (x - 1) (item-column a b other) (item-column x y item) same)
+
+  -- the first number of what stands before the end of the cells
+  pub stands-row : (p x y : ℕ) → p < cells w → StandsAt (w .count) p x y → x ≤ whole w
+  stands-row p x y inside stands =
+      elim (decLt (whole w) x) [
+        | yes above ↦
+            let past : (w .count + suc (length (w .target))) * w .count ≤ (x - 1) * w .count = mul-le-mul-right (w .count) (omega arith) in
+            absurd (omega (arith, stands .is))
+        | no within ↦ omega arith
+      ]
+
+  -- and where its count is k, it is an item that weighs k
+  pub stands-item : {choices : List ℕ} (k p x y : ℕ) → Small w choices → 1 ≤ k → p < cells w → StandsAt (w .count) p x y → at (w .counts) p ≡ k
+      → Item w x y × (weightIn w x y ≡ k)
+  stands-item k p zero y small some inside stands is = absurd (omega (arith, stands .some))
+  stands-item k p (suc q) y small some inside stands is =
+      let within = stands-row p (suc q) y inside stands in
+      let few = small .few in
+      let short = small .short in
+      let weighs : weightIn w (suc q) y ≡ k =
+      simp (
+        le-ltb mostOfEntry (w .count) (omega arith),
+        le-ltb mostOfEntry (length (w .target)) (omega arith),
+        lt-ltb y (w .count) (stands .column),
+        le-ltb (w .count + length (w .target)) q (omega arith),
+      )
+      (row-behind q y ∙ ap (at (w .counts)) (stands .is) ∙ is) in
+      ((omega arith, omega arith), weighs)
 
   pub choice-stored : (choices : List ℕ) (x y v : ℕ) → cells w ≤ length choices → Item w x y
       → choiceAt (w .count) (set choices (place (w .count) (x - 1) y) v) x y ≡ v
@@ -71,12 +130,7 @@ module _ (w : World) where
   pub choice-elsewhere : (choices : List ℕ) (x y v a b : ℕ) → Item w x y → Item w a b → (Same x y a b → ⊥)
       → choiceAt (w .count) (set choices (place (w .count) (x - 1) y) v) a b ≡ choiceAt (w .count) choices a b
   choice-elsewhere choices x y v a b item other differ =
-      getD-set-other choices (place (w .count) (x - 1) y) (place (w .count) (a - 1) b) v 0 (λ same.
-      let row : a - 1 ≡ x - 1 = same-row (a - 1) (x - 1) (item-column a b other) (item-column x y item) same in
-      let first = item .0 in
-      let first-other = other .0 in
-      let column : b ≡ y = same-column (a - 1) (x - 1) (item-column a b other) (item-column x y item) same in
-      differ (omega arith, column))
+      getD-set-other choices (placeOf w x y) (placeOf w a b) v 0 (λ same. differ (same-place x y a b item other same))
 
   pub keeps-none : {choices : List ℕ} → Keeps w choices choices
   keeps-none = record { long = refl; behind = refl }

@@ -4,6 +4,7 @@ pub mod Comparing
 pub mod Choosing
 pub mod Spelling
 pub mod Marking
+pub mod Due
 pub mod Sweeping
 pub mod Room
 pub mod Witness

@@ -3,13 +3,13 @@ use mathlib.Core.Bool.{Bool, true}
 use mathlib.Core.Logic.{_⊎_}
 use mathlib.Core.Path.{_≡_}
 use mathlib.Core.List.{List}
-use Prim.Native.Nat.{ℕ, suc, _-_, _≤_, _<_}
+use Prim.Native.Nat.{ℕ, _-_, _≤_, _<_}
 use lib.Dec.{eqb}
 use lib.ListN.{length, drop, set}
 use Rattle.refusals.specs.Telling.{pick}
 use Rattle.tables.specs.Rules.{place}
 use Rattle.derivations.specs.Derivations.{Alone, Tight, Candidate}
-use Rattle.derivations.specs.Ways.{World, partsIn, weightIn, whole}
+use Rattle.derivations.specs.Ways.{World, partsIn, weightIn}
 use Rattle.derivations.specs.declared.Parts.{Parts}
 use Rattle.derivations.specs.declared.Parts.the-variants.{One, Two, Nothing}
 use Rattle.witness.specs.Choices.{needed, marked, choiceAt, cells, Item}
@@ -38,9 +38,9 @@ module _ (count : ℕ) where
 
 -- ---- what marking an item does
 
--- A number that falls from an item to its tight parts: they weigh less, or as much and have a lower first number. No first number is above `whole`.
-abbrev pub rank : World → ℕ → ℕ → ℕ
-rank w x y = place (suc (whole w)) (weightIn w x y) x
+-- The item (a, b) weighs less than (x, y), or as much and has a lower first number: so do tight parts.
+abbrev pub Lower : World → ℕ → ℕ → ℕ → ℕ → Type 0
+Lower w x y a b = (weightIn w a b < weightIn w x y) ⊎ ((weightIn w a b ≡ weightIn w x y) × (a < x))
 
 module _ (choice : ℕ → ℕ → ℕ) where
   -- a factor, or an item that is needed, marked or chosen
@@ -61,20 +61,20 @@ pub record Keeps (w : World) (before after : List ℕ) : Type 0 where
   pub long : length after ≡ length before
   pub behind : drop (cells w) after ≡ drop (cells w) before
 
--- Items become needed that were not wanted, all of them below that rank; the others remain as they were.
-pub record Grows (w : World) (bound : ℕ) (before after : List ℕ) : Type 0 where
+-- Items become needed that were not wanted, all of them lower than (x, y); the others remain as they were.
+pub record Grows (w : World) (x y : ℕ) (before after : List ℕ) : Type 0 where
   pub keeps : Keeps w before after
   pub each : (a b : ℕ) → Item w a b
       → (choiceAt (w .count) after a b ≡ choiceAt (w .count) before a b)
-      ⊎ ((choiceAt (w .count) before a b ≡ 0) × (choiceAt (w .count) after a b ≡ needed) × (rank w a b < bound))
+      ⊎ ((choiceAt (w .count) before a b ≡ 0) × (choiceAt (w .count) after a b ≡ needed) × Lower w x y a b)
 
 -- The parts in the way d are wanted where they are tight; `r` says that the item is decided by them.
 pub record MarksWay (w : World) (x y d : ℕ) (before : List ℕ) (r : Bool) (after : List ℕ) : Type 0 where
-  pub grows : Grows w (rank w x y) before after
+  pub grows : Grows w x y before after
   pub wanted : Tight (weightIn w) x y (partsIn w x y d) → PartsWanted (choiceAt (w .count) after) (partsIn w x y d)
   pub decided : r ≡ true → Tight (weightIn w) x y (partsIn w x y d) × Alone x (partsIn w x y d)
 
 -- The item is marked, and the parts of its candidates are wanted.
 pub record Marks (w : World) (x y : ℕ) (before after : List ℕ) : Type 0 where
-  pub grows : Grows w (rank w x y) (set before (place (w .count) (x - 1) y) marked) after
+  pub grows : Grows w x y (set before (place (w .count) (x - 1) y) marked) after
   pub closed : Closed w (choiceAt (w .count) after) x y

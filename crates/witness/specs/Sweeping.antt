@@ -1,31 +1,31 @@
--- The sweeps over all items, by their ranks. Assumes nothing: these are definitions.
+-- The sweeps over all items, by their weight and their place. Assumes nothing: these are definitions.
 use mathlib.Core.Bool.{Bool, true, false}
 use mathlib.Core.Logic.{_⊎_}
 use mathlib.Core.Path.{_≡_}
 use mathlib.Core.List.{List}
-use Prim.Native.Nat.{ℕ, suc, _≤_, _<_}
+use Prim.Native.Nat.{ℕ, _-_, _≤_, _<_, min}
+use lib.ListN.{length}
 use Rattle.tables.specs.Rules.{place}
 use Rattle.derivations.specs.Derivations.{Attained}
 use Rattle.derivations.specs.Ways.{World, partsIn, weightIn, whole}
-use Rattle.witness.specs.Choices.{needed, marked, choiceAt, Coded, Item, Settled}
-use Rattle.witness.specs.Marking.{rank, Closed, Keeps}
+use Rattle.witness.specs.Choices.{needed, marked, choiceAt, cells, Coded, Item, Settled}
+use Rattle.witness.specs.Marking.{Closed, Keeps}
 
--- the choices of all items with the first number x are at most `most`
-abbrev pub RowAtMost : ℕ → List ℕ → ℕ → ℕ → Type 0
-RowAtMost count choices x most = (y : ℕ) → y < count → choiceAt count choices x y ≤ most
+-- where the choice of an item and its count stand; and all items stand before this place
+abbrev pub placeOf : World → ℕ → ℕ → ℕ
+placeOf w x y = place (w .count) (x - 1) y
 
--- the rank of the items of weight k that have the first number x
-abbrev pub rankOf : World → ℕ → ℕ → ℕ
-rankOf w k x = place (suc (whole w)) k x
+abbrev pub swept : World → ℕ
+swept w = min (cells w) (length (w .counts))
 
-module _ (w : World) (bound y : ℕ) where
-  -- The sweep goes down and stands at that rank and second number: the item is yet to come.
+module _ (w : World) (k p : ℕ) where
+  -- The sweep goes down and stands behind the places before p, at the weight k: the item is yet to come.
   abbrev pub Below : ℕ → ℕ → Type 0
-  Below a b = (rank w a b < bound) ⊎ ((rank w a b ≡ bound) × (y ≤ b))
+  Below a b = (weightIn w a b < k) ⊎ ((weightIn w a b ≡ k) × (placeOf w a b < p))
 
-  -- and where it goes up
+  -- and where it goes up, and stands at the place p
   abbrev pub Above : ℕ → ℕ → Type 0
-  Above a b = (bound < rank w a b) ⊎ ((bound ≡ rank w a b) × (y ≤ b))
+  Above a b = (k < weightIn w a b) ⊎ ((weightIn w a b ≡ k) × (p ≤ placeOf w a b))
 
   module _ (choices : List ℕ) where
     -- an item while items are marked
@@ -52,27 +52,20 @@ module _ (w : World) (bound y : ℕ) where
       pub item : 1 ≤ weightIn w (whole w) 0
       pub root : 1 ≤ choiceAt (w .count) choices (whole w) 0
 
--- The sweeps stand at the weight k, the first number x and the second number y.
-abbrev pub MarkingAt : World → ℕ → ℕ → ℕ → List ℕ → Type 0
-MarkingAt w k x y choices = Marking w (rankOf w k x) y choices
-
-abbrev pub ChoosingAt : World → ℕ → ℕ → ℕ → List ℕ → Type 0
-ChoosingAt w k x y choices = Choosing w (rankOf w k x) y choices
-
--- A marking sweep has come there.
-pub record MarksTo (w : World) (k x y : ℕ) (before after : List ℕ) : Type 0 where
+-- A marking sweep has come to the weight k and the place p.
+pub record MarksTo (w : World) (k p : ℕ) (before after : List ℕ) : Type 0 where
   pub keeps : Keeps w before after
-  pub marking : MarkingAt w k x y after
+  pub marking : Marking w k p after
 
 -- Some item that weighs at most `most` has no tight parts.
 abbrev pub Stuck : World → ℕ → Type 0
 Stuck w most = (n : ℕ) → most ≤ n → Attained (partsIn w) (weightIn w) n → ⊥
 
--- A choosing sweep has come there; or it is stuck.
-abbrev pub ChoosingOr : World → ℕ → ℕ → ℕ → ℕ → Bool → List ℕ → Type 0
-ChoosingOr w most k x y true after = ChoosingAt w k x y after
-ChoosingOr w most k x y false after = Stuck w most
+-- A choosing sweep has come to the weight k and the place p; or it is stuck.
+abbrev pub ChoosingOr : World → ℕ → ℕ → ℕ → Bool → List ℕ → Type 0
+ChoosingOr w most k p true after = Choosing w k p after
+ChoosingOr w most k p false after = Stuck w most
 
-pub record ChoosesTo (w : World) (most k x y : ℕ) (before : List ℕ) (r : Bool) (after : List ℕ) : Type 0 where
+pub record ChoosesTo (w : World) (most k p : ℕ) (before : List ℕ) (r : Bool) (after : List ℕ) : Type 0 where
   pub keeps : Keeps w before after
-  pub choosing : ChoosingOr w most k x y r after
+  pub choosing : ChoosingOr w most k p r after

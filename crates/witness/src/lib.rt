@@ -4,6 +4,7 @@
 mod choices;
 mod choosing;
 mod comparing;
+mod due;
 mod marking;
 mod spelling;
 mod stacks;
@@ -89,13 +90,13 @@ fn mark_from(
     counts: &[u16],
     choices: &mut [u16],
     x: usize,
-    k: usize,
+    k: Factors,
 )
     requires { ⌜ Small (world count (now letters) (now rests) (now «children_r») (now «children_s») (now wholes) (now target) (now counts)) (now choices) ⌝ }
     requires { ⌜ x ≡ whole (world count (now letters) (now rests) (now «children_r») (now «children_s») (now wholes) (now target) (now counts)) ⌝ }
-    requires { ⌜ (1 ≤ k) × (weightIn (world count (now letters) (now rests) (now «children_r») (now «children_s») (now wholes) (now target) (now counts)) x 0 ≡ k) ⌝ }
+    requires { ⌜ (1 ≤ k .0) × (weightIn (world count (now letters) (now rests) (now «children_r») (now «children_s») (now wholes) (now target) (now counts)) x 0 ≡ k .0) ⌝ }
     ensures { λ _. ⌜ MarksTo (world count (now (letters .entry)) (now (rests .entry)) (now («children_r» .entry)) (now («children_s» .entry)) (now (wholes .entry))
-        (now (target .entry)) (now (counts .entry))) 1 0 0 (now (choices .entry)) (now (choices .exit)) ⌝ }
+        (now (target .entry)) (now (counts .entry))) 1 0 (now (choices .entry)) (now (choices .exit)) ⌝ }
 {
     clear(choices, x * count);
     set_choice(count, choices, x, 0, NEEDED);
@@ -126,13 +127,13 @@ fn write(
     choices: &mut [u16],
     witness: &mut [u8],
     x: usize,
-    k: usize,
+    k: Factors,
 ) -> Written
-    requires { ⌜ Fits (world count (now letters) (now rests) (now «children_r») (now «children_s») (now wholes) (now target) (now counts)) k (now choices) (now witness) ⌝ }
+    requires { ⌜ Fits (world count (now letters) (now rests) (now «children_r») (now «children_s») (now wholes) (now target) (now counts)) (k .0) (now choices) (now witness) ⌝ }
     requires { ⌜ x ≡ whole (world count (now letters) (now rests) (now «children_r») (now «children_s») (now wholes) (now target) (now counts)) ⌝ }
-    requires { ⌜ (1 ≤ k) × (weightIn (world count (now letters) (now rests) (now «children_r») (now «children_s») (now wholes) (now target) (now counts)) x 0 ≡ k) ⌝ }
+    requires { ⌜ (1 ≤ k .0) × (weightIn (world count (now letters) (now rests) (now «children_r») (now «children_s») (now wholes) (now target) (now counts)) x 0 ≡ k .0) ⌝ }
     ensures { λ r. ⌜ Writes (world count (now (letters .entry)) (now (rests .entry)) (now («children_r» .entry)) (now («children_s» .entry)) (now (wholes .entry))
-        (now (target .entry)) (now (counts .entry))) k r
+        (now (target .entry)) (now (counts .entry))) (k .0) r
         (now (choices .entry)) (now (witness .entry)) (now (choices .exit)) (now (witness .exit)) ⌝ }
 {
     let mut xs = [0u16; limits::WITNESS_ROOM];
@@ -234,7 +235,7 @@ pub fn first_series(
                 choices,
                 witness,
                 x,
-                k,
+                Factors(k as u16),
             );
         }
     }

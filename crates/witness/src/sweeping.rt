@@ -1,32 +1,38 @@
-// The sweeps: all items by their weight and first number, downwards to mark what is needed, and upwards to choose. The parts of an item come behind it in
-// the one and before it in the other: they weigh less, or as much and have a lower first number. Rows of choices without anything to do are passed over.
+// The sweeps: all items by their weight and their place, downwards to mark what is needed, and upwards to choose. The parts of an item come behind it in
+// the one and before it in the other: they weigh less, or as much and have a lower first number, and so an earlier place. Blocks of places at which nothing is
+// due are passed over.
 use crate::choices::MARKED;
 use crate::choices::NEEDED;
-use crate::choices::choice;
 use crate::choosing::choose;
+use crate::due::block_after;
+use crate::due::block_before;
+use crate::due::block_due;
+use crate::due::is_due;
+use crate::due::item_at;
 use crate::marking::mark;
-use trees::entries::all_at_most;
-ghost use Prim.Native.Nat.{_+_, _-_, _≤_, _<_};
+use words::Factors;
+ghost use mathlib.Core.Path.{_≡_};
+ghost use Prim.Native.Nat.{suc, _+_, _*_, _≤_, _<_, min};
 ghost use lib.ListN.{length};
-ghost use Rattle.limits.specs.Limits.{mostFactors};
-ghost use Rattle.refusals.specs.Telling.{Tells};
-ghost use Rattle.tables.specs.Rules.{place};
+ghost use Rattle.limits.specs.Limits.{mostFactors, mostLetters, mostStates};
 ghost use Rattle.derivations.specs.Ways.{world, whole};
 ghost use Rattle.witness.specs.Choices.{Small};
-ghost use Rattle.witness.specs.Sweeping.{RowAtMost, MarkingAt, ChoosingAt, MarksTo, ChoosesTo};
+ghost use Rattle.witness.specs.Sweeping.{swept as sweptOf, Marking, Choosing, MarksTo, ChoosesTo};
 
-// The most that stands for a way.
-const CHOSEN: u16 = MARKED - 1;
-
-// Whether the choices of all items with the first number x are at most `most`.
-fn row_at_most(count: usize, choices: &[u16], x: usize, most: u16) -> bool
-    requires { ⌜ (1 ≤ x) × (place count (x - 1) count ≤ length (now choices)) ⌝ }
-    ensures { λ r. ⌜ Tells r (RowAtMost count (now (choices .entry)) x most) ⌝ }
+// Every item stands before this place, which the counts and the choices reach.
+fn swept(count: usize, letters: usize, counts: usize) -> usize
+    requires { ⌜ (count ≤ mostStates) × (letters ≤ mostLetters) ⌝ }
+    ensures { λ r. ⌜ r ≡ min ((count + suc letters) * count) counts ⌝ }
 {
-    all_at_most(&choices[(x - 1) * count..], count, most)
+    let cells = (count + letters + 1) * count;
+    if counts < cells {
+        return counts;
+    }
+    cells
 }
 
-fn mark_item(
+// Marks the items of weight k from the place `from` up to `end`, downwards. The numbers of the first are sought from `near` on.
+fn mark_block(
     target: &[u8],
     count: usize,
     letters: &[u8],
@@ -36,20 +42,25 @@ fn mark_item(
     wholes: &[u16],
     counts: &[u16],
     choices: &mut [u16],
-    k: usize,
-    x: usize,
-    y: usize,
+    k: Factors,
+    near: usize,
+    from: usize,
+    end: usize,
 )
     requires { ⌜ Small (world count (now letters) (now rests) (now «children_r») (now «children_s») (now wholes) (now target) (now counts)) (now choices) ⌝ }
-    requires { ⌜ (1 ≤ x) × (x ≤ whole (world count (now letters) (now rests) (now «children_r») (now «children_s») (now wholes) (now target) (now counts))) ⌝ }
-    requires { ⌜ y < count ⌝ }
-    requires { ⌜ 1 ≤ k ⌝ }
-    requires { ⌜ MarkingAt (world count (now letters) (now rests) (now «children_r») (now «children_s») (now wholes) (now target) (now counts)) k x y (now choices) ⌝ }
+    requires { ⌜ (1 ≤ near) × (near ≤ whole (world count (now letters) (now rests) (now «children_r») (now «children_s») (now wholes) (now target) (now counts))) ⌝ }
+    requires { ⌜ (from ≤ end) × (end ≤ sweptOf (world count (now letters) (now rests) (now «children_r») (now «children_s») (now wholes) (now target) (now counts))) ⌝ }
+    requires { ⌜ 1 ≤ k .0 ⌝ }
+    requires { ⌜ Marking (world count (now letters) (now rests) (now «children_r») (now «children_s») (now wholes) (now target) (now counts)) (k .0) end (now choices) ⌝ }
     ensures { λ _. ⌜ MarksTo (world count (now (letters .entry)) (now (rests .entry)) (now («children_r» .entry)) (now («children_s» .entry)) (now (wholes .entry))
-        (now (target .entry)) (now (counts .entry))) k x (y + 1) (now (choices .entry)) (now (choices .exit)) ⌝ }
+        (now (target .entry)) (now (counts .entry))) (k .0) from (now (choices .entry)) (now (choices .exit)) ⌝ }
 {
-    if choice(count, choices, x, y) == NEEDED as usize {
-        if items::weight(count, wholes.len(), target.len(), counts, x, y) == k {
+    let mut x = near;
+    let mut p = end;
+    while from < p {
+        p -= 1;
+        if is_due(choices[p], counts[p], NEEDED, k.0) {
+            let item = item_at(count, x, p);
             mark(
                 target,
                 count,
@@ -60,54 +71,11 @@ fn mark_item(
                 wholes,
                 counts,
                 choices,
-                x,
-                y,
+                item.first,
+                item.second,
             );
+            x = item.first;
         }
-    }
-}
-
-// Marks the items of weight k that have the first number x.
-fn mark_row(
-    target: &[u8],
-    count: usize,
-    letters: &[u8],
-    rests: &[u16],
-    children_r: &[u16],
-    children_s: &[u16],
-    wholes: &[u16],
-    counts: &[u16],
-    choices: &mut [u16],
-    k: usize,
-    x: usize,
-)
-    requires { ⌜ Small (world count (now letters) (now rests) (now «children_r») (now «children_s») (now wholes) (now target) (now counts)) (now choices) ⌝ }
-    requires { ⌜ (1 ≤ x) × (x ≤ whole (world count (now letters) (now rests) (now «children_r») (now «children_s») (now wholes) (now target) (now counts))) ⌝ }
-    requires { ⌜ 1 ≤ k ⌝ }
-    requires { ⌜ MarkingAt (world count (now letters) (now rests) (now «children_r») (now «children_s») (now wholes) (now target) (now counts)) k x 0 (now choices) ⌝ }
-    ensures { λ _. ⌜ MarksTo (world count (now (letters .entry)) (now (rests .entry)) (now («children_r» .entry)) (now («children_s» .entry)) (now (wholes .entry))
-        (now (target .entry)) (now (counts .entry))) k (x - 1) 0 (now (choices .entry)) (now (choices .exit)) ⌝ }
-{
-    if row_at_most(count, choices, x, MARKED) {
-        return;
-    }
-    let mut y = 0;
-    while y < count {
-        mark_item(
-            target,
-            count,
-            letters,
-            rests,
-            children_r,
-            children_s,
-            wholes,
-            counts,
-            choices,
-            k,
-            x,
-            y,
-        );
-        y += 1;
     }
 }
 
@@ -122,30 +90,38 @@ fn mark_weight(
     wholes: &[u16],
     counts: &[u16],
     choices: &mut [u16],
-    k: usize,
+    k: Factors,
 )
     requires { ⌜ Small (world count (now letters) (now rests) (now «children_r») (now «children_s») (now wholes) (now target) (now counts)) (now choices) ⌝ }
-    requires { ⌜ 1 ≤ k ⌝ }
-    requires { ⌜ MarkingAt (world count (now letters) (now rests) (now «children_r») (now «children_s») (now wholes) (now target) (now counts)) (k + 1) 0 0 (now choices) ⌝ }
+    requires { ⌜ 1 ≤ k .0 ⌝ }
+    requires { ⌜ Marking (world count (now letters) (now rests) (now «children_r») (now «children_s») (now wholes) (now target) (now counts)) (k .0 + 1) 0 (now choices) ⌝ }
     ensures { λ _. ⌜ MarksTo (world count (now (letters .entry)) (now (rests .entry)) (now («children_r» .entry)) (now («children_s» .entry)) (now (wholes .entry))
-        (now (target .entry)) (now (counts .entry))) k 0 0 (now (choices .entry)) (now (choices .exit)) ⌝ }
+        (now (target .entry)) (now (counts .entry))) (k .0) 0 (now (choices .entry)) (now (choices .exit)) ⌝ }
 {
     let mut x = count + target.len() + 1;
-    while 0 < x {
-        mark_row(
-            target,
-            count,
-            letters,
-            rests,
-            children_r,
-            children_s,
-            wholes,
-            counts,
-            choices,
-            k,
-            x,
-        );
-        x -= 1;
+    let mut end = swept(count, target.len(), counts.len());
+    while 0 < end {
+        let from = block_before(end);
+        if block_due(choices, counts, from, end, NEEDED, k.0) {
+            let item = item_at(count, x, from);
+            x = item.first;
+            mark_block(
+                target,
+                count,
+                letters,
+                rests,
+                children_r,
+                children_s,
+                wholes,
+                counts,
+                choices,
+                k,
+                x,
+                from,
+                end,
+            );
+        }
+        end = from;
     }
 }
 
@@ -160,14 +136,14 @@ pub(crate) fn mark_all(
     wholes: &[u16],
     counts: &[u16],
     choices: &mut [u16],
-    most: usize,
+    most: Factors,
 )
     requires { ⌜ Small (world count (now letters) (now rests) (now «children_r») (now «children_s») (now wholes) (now target) (now counts)) (now choices) ⌝ }
-    requires { ⌜ MarkingAt (world count (now letters) (now rests) (now «children_r») (now «children_s») (now wholes) (now target) (now counts)) (most + 1) 0 0 (now choices) ⌝ }
+    requires { ⌜ Marking (world count (now letters) (now rests) (now «children_r») (now «children_s») (now wholes) (now target) (now counts)) (most .0 + 1) 0 (now choices) ⌝ }
     ensures { λ _. ⌜ MarksTo (world count (now (letters .entry)) (now (rests .entry)) (now («children_r» .entry)) (now («children_s» .entry)) (now (wholes .entry))
-        (now (target .entry)) (now (counts .entry))) 1 0 0 (now (choices .entry)) (now (choices .exit)) ⌝ }
+        (now (target .entry)) (now (counts .entry))) 1 0 (now (choices .entry)) (now (choices .exit)) ⌝ }
 {
-    let mut k = most;
+    let mut k = most.0;
     while 0 < k {
         mark_weight(
             target,
@@ -179,13 +155,14 @@ pub(crate) fn mark_all(
             wholes,
             counts,
             choices,
-            k,
+            Factors(k),
         );
         k -= 1;
     }
 }
 
-fn choose_item(
+// Chooses for the items of weight k from the place `from` up to `end`. The numbers of the first are sought from `near` on.
+fn choose_block(
     target: &[u8],
     count: usize,
     letters: &[u8],
@@ -199,22 +176,27 @@ fn choose_item(
     ys: &mut [u16],
     us: &mut [u16],
     vs: &mut [u16],
-    k: usize,
-    x: usize,
-    y: usize,
+    k: Factors,
+    near: usize,
+    from: usize,
+    end: usize,
 ) -> bool
     requires { ⌜ Small (world count (now letters) (now rests) (now «children_r») (now «children_s») (now wholes) (now target) (now counts)) (now choices) ⌝ }
-    requires { ⌜ (1 ≤ x) × (x ≤ whole (world count (now letters) (now rests) (now «children_r») (now «children_s») (now wholes) (now target) (now counts))) ⌝ }
-    requires { ⌜ y < count ⌝ }
-    requires { ⌜ (1 ≤ k) × (k ≤ mostFactors) ⌝ }
+    requires { ⌜ (1 ≤ near) × (near ≤ whole (world count (now letters) (now rests) (now «children_r») (now «children_s») (now wholes) (now target) (now counts))) ⌝ }
+    requires { ⌜ (from ≤ end) × (end ≤ sweptOf (world count (now letters) (now rests) (now «children_r») (now «children_s») (now wholes) (now target) (now counts))) ⌝ }
+    requires { ⌜ (1 ≤ k .0) × (k .0 ≤ mostFactors) ⌝ }
     requires { ⌜ (mostFactors ≤ length (now xs)) × (mostFactors ≤ length (now ys)) × (mostFactors ≤ length (now us)) × (mostFactors ≤ length (now vs)) ⌝ }
-    requires { ⌜ ChoosingAt (world count (now letters) (now rests) (now «children_r») (now «children_s») (now wholes) (now target) (now counts)) k x y (now choices) ⌝ }
+    requires { ⌜ Choosing (world count (now letters) (now rests) (now «children_r») (now «children_s») (now wholes) (now target) (now counts)) (k .0) from (now choices) ⌝ }
     ensures { λ r. ⌜ ChoosesTo (world count (now (letters .entry)) (now (rests .entry)) (now («children_r» .entry)) (now («children_s» .entry)) (now (wholes .entry))
-        (now (target .entry)) (now (counts .entry))) k k x (y + 1) (now (choices .entry)) r (now (choices .exit)) ⌝ }
+        (now (target .entry)) (now (counts .entry))) (k .0) (k .0) end (now (choices .entry)) r (now (choices .exit)) ⌝ }
 {
-    if choice(count, choices, x, y) == MARKED as usize {
-        if items::weight(count, wholes.len(), target.len(), counts, x, y) == k {
-            return choose(
+    let mut x = near;
+    let mut p = from;
+    while p < end {
+        if is_due(choices[p], counts[p], MARKED, k.0) {
+            let item = item_at(count, x, p);
+            x = item.first;
+            if choose(
                 target,
                 count,
                 letters,
@@ -228,66 +210,15 @@ fn choose_item(
                 ys,
                 us,
                 vs,
-                x,
-                y,
-            );
-        }
-    }
-    true
-}
-
-// Chooses for the items of weight k that have the first number x.
-fn choose_row(
-    target: &[u8],
-    count: usize,
-    letters: &[u8],
-    rests: &[u16],
-    children_r: &[u16],
-    children_s: &[u16],
-    wholes: &[u16],
-    counts: &[u16],
-    choices: &mut [u16],
-    xs: &mut [u16],
-    ys: &mut [u16],
-    us: &mut [u16],
-    vs: &mut [u16],
-    k: usize,
-    x: usize,
-) -> bool
-    requires { ⌜ Small (world count (now letters) (now rests) (now «children_r») (now «children_s») (now wholes) (now target) (now counts)) (now choices) ⌝ }
-    requires { ⌜ (1 ≤ x) × (x ≤ whole (world count (now letters) (now rests) (now «children_r») (now «children_s») (now wholes) (now target) (now counts))) ⌝ }
-    requires { ⌜ (1 ≤ k) × (k ≤ mostFactors) ⌝ }
-    requires { ⌜ (mostFactors ≤ length (now xs)) × (mostFactors ≤ length (now ys)) × (mostFactors ≤ length (now us)) × (mostFactors ≤ length (now vs)) ⌝ }
-    requires { ⌜ ChoosingAt (world count (now letters) (now rests) (now «children_r») (now «children_s») (now wholes) (now target) (now counts)) k x 0 (now choices) ⌝ }
-    ensures { λ r. ⌜ ChoosesTo (world count (now (letters .entry)) (now (rests .entry)) (now («children_r» .entry)) (now («children_s» .entry)) (now (wholes .entry))
-        (now (target .entry)) (now (counts .entry))) k k (x + 1) 0 (now (choices .entry)) r (now (choices .exit)) ⌝ }
-{
-    if row_at_most(count, choices, x, CHOSEN) {
-        return true;
-    }
-    let mut y = 0;
-    while y < count {
-        if choose_item(
-            target,
-            count,
-            letters,
-            rests,
-            children_r,
-            children_s,
-            wholes,
-            counts,
-            choices,
-            xs,
-            ys,
-            us,
-            vs,
-            k,
-            x,
-            y,
-        ) {
-            y += 1;
+                item.first,
+                item.second,
+            ) {
+                p += 1;
+            } else {
+                return false;
+            }
         } else {
-            return false;
+            p += 1;
         }
     }
     true
@@ -308,38 +239,48 @@ fn choose_weight(
     ys: &mut [u16],
     us: &mut [u16],
     vs: &mut [u16],
-    k: usize,
+    k: Factors,
 ) -> bool
     requires { ⌜ Small (world count (now letters) (now rests) (now «children_r») (now «children_s») (now wholes) (now target) (now counts)) (now choices) ⌝ }
-    requires { ⌜ (1 ≤ k) × (k ≤ mostFactors) ⌝ }
+    requires { ⌜ (1 ≤ k .0) × (k .0 ≤ mostFactors) ⌝ }
     requires { ⌜ (mostFactors ≤ length (now xs)) × (mostFactors ≤ length (now ys)) × (mostFactors ≤ length (now us)) × (mostFactors ≤ length (now vs)) ⌝ }
-    requires { ⌜ ChoosingAt (world count (now letters) (now rests) (now «children_r») (now «children_s») (now wholes) (now target) (now counts)) k 0 0 (now choices) ⌝ }
+    requires { ⌜ Choosing (world count (now letters) (now rests) (now «children_r») (now «children_s») (now wholes) (now target) (now counts)) (k .0) 0 (now choices) ⌝ }
     ensures { λ r. ⌜ ChoosesTo (world count (now (letters .entry)) (now (rests .entry)) (now («children_r» .entry)) (now («children_s» .entry)) (now (wholes .entry))
-        (now (target .entry)) (now (counts .entry))) k (k + 1) 0 0 (now (choices .entry)) r (now (choices .exit)) ⌝ }
+        (now (target .entry)) (now (counts .entry))) (k .0) (k .0 + 1) 0 (now (choices .entry)) r (now (choices .exit)) ⌝ }
 {
-    let most = count + target.len() + 1;
+    let end = swept(count, target.len(), counts.len());
     let mut x = 1;
-    while x <= most {
-        if choose_row(
-            target,
-            count,
-            letters,
-            rests,
-            children_r,
-            children_s,
-            wholes,
-            counts,
-            choices,
-            xs,
-            ys,
-            us,
-            vs,
-            k,
-            x,
-        ) {
-            x += 1;
+    let mut from = 0;
+    while from < end {
+        let stop = block_after(from, end);
+        if block_due(choices, counts, from, stop, MARKED, k.0) {
+            let item = item_at(count, x, from);
+            x = item.first;
+            if choose_block(
+                target,
+                count,
+                letters,
+                rests,
+                children_r,
+                children_s,
+                wholes,
+                counts,
+                choices,
+                xs,
+                ys,
+                us,
+                vs,
+                k,
+                x,
+                from,
+                stop,
+            ) {
+                from = stop;
+            } else {
+                return false;
+            }
         } else {
-            return false;
+            from = stop;
         }
     }
     true
@@ -360,17 +301,17 @@ pub(crate) fn choose_all(
     ys: &mut [u16],
     us: &mut [u16],
     vs: &mut [u16],
-    most: usize,
+    most: Factors,
 ) -> bool
     requires { ⌜ Small (world count (now letters) (now rests) (now «children_r») (now «children_s») (now wholes) (now target) (now counts)) (now choices) ⌝ }
-    requires { ⌜ most ≤ mostFactors ⌝ }
+    requires { ⌜ most .0 ≤ mostFactors ⌝ }
     requires { ⌜ (mostFactors ≤ length (now xs)) × (mostFactors ≤ length (now ys)) × (mostFactors ≤ length (now us)) × (mostFactors ≤ length (now vs)) ⌝ }
-    requires { ⌜ ChoosingAt (world count (now letters) (now rests) (now «children_r») (now «children_s») (now wholes) (now target) (now counts)) 1 0 0 (now choices) ⌝ }
+    requires { ⌜ Choosing (world count (now letters) (now rests) (now «children_r») (now «children_s») (now wholes) (now target) (now counts)) 1 0 (now choices) ⌝ }
     ensures { λ r. ⌜ ChoosesTo (world count (now (letters .entry)) (now (rests .entry)) (now («children_r» .entry)) (now («children_s» .entry)) (now (wholes .entry))
-        (now (target .entry)) (now (counts .entry))) most (most + 1) 0 0 (now (choices .entry)) r (now (choices .exit)) ⌝ }
+        (now (target .entry)) (now (counts .entry))) (most .0) (most .0 + 1) 0 (now (choices .entry)) r (now (choices .exit)) ⌝ }
 {
     let mut k = 1;
-    while k <= most {
+    while k <= most.0 {
         if choose_weight(
             target,
             count,
@@ -385,7 +326,7 @@ pub(crate) fn choose_all(
             ys,
             us,
             vs,
-            k,
+            Factors(k),
         ) {
             k += 1;
         } else {

@@ -56,6 +56,9 @@ returns c =
 cast-if3 : tie.Need-cast-if3
 cast-if3 c = search needs
 
+cast-t26 : tie.Need-cast-t26
+cast-t26 c = omega (arith, c .before .before .if3 .taken, fits (c .before .before .before .before .before) .bound)
+
 write-requires : tie.Need-write-requires
 write-requires c κs =
     let at-weight = c .before .before .before .before .before in
@@ -101,6 +104,7 @@ first-series-spec =
     weight-requires
     returns
     cast-if3
+    cast-t26
     write-requires
     same-length
     same-length-2

@@ -5,8 +5,8 @@ use native.Mathlib.Nat.{mul-le-mul}
 use Rattle.limits.specs.Limits.{mostLetters, mostStates}
 use Rattle.derivations.specs.Ways.{World, world}
 use Rattle.witness.specs.Sweeping.{MarksTo}
-use Rattle.witness.proofs.Places.{row-place, whole-cells, keeps-then, small-kept}
-use Rattle.witness.proofs.MarkSweeps.{marking-begins}
+use Rattle.witness.proofs.Places.{row-place, whole-cells, small-kept}
+use Rattle.witness.proofs.MarkSweeps.{marks-then, marking-begins}
 use native.Mathlib.Omega.{arith}
 use Rattle.witness.proofs.mark_from.Statement.{statement}
 use Rattle.witness.proofs.mark_from.Tie as tie
@@ -25,12 +25,12 @@ inWorld c =
 
 -- only the item is needed
 first : (c : tie.After-set-choice)
-    → MarksTo (inWorld (begun (asked c))) (begun (asked c) .args .k + 1) 0 0 (begun (asked c) .args .choices .now) (c .set-choice .last .1 .0)
+    → MarksTo (inWorld (begun (asked c))) (begun (asked c) .args .k .0 + 1) 0 (begun (asked c) .args .choices .now) (c .set-choice .last .1 .0)
 first c =
     let start = begun (asked c) in
     let a = start .args in
     let p = start .pre in
-    marking-begins (inWorld start) (a .choices .now) (p .0 .room) (a .x) (a .k) (p .1 .0) (p .1 .1 .0) (p .1 .1 .1) (asked c .clear .ensures)
+    marking-begins (inWorld start) (a .choices .now) (p .0 .room) (a .x) (a .k .0) (p .1 .0) (p .1 .1 .0) (p .1 .1 .1) (asked c .clear .ensures)
     (c .set-choice .ensures)
 
 mul-clear : tie.Need-mul-clear
@@ -67,9 +67,7 @@ returns : tie.Need-returns
 returns c =
     let at-all = c .before .before in
     let at-set = at-all .before .before .before .before in
-    let start = begun (asked at-set) in
-    let marks = at-all .mark-all .ensures in
-    record { keeps = keeps-then (inWorld start) (first at-set .keeps) (marks .keeps); marking = marks .marking }
+    marks-then (inWorld (begun (asked at-set))) (first at-set) (at-all .mark-all .ensures)
 
 pub mark-from-spec : {M : Type 1} → statement M
 mark-from-spec = tie.close (tie.spec mul-clear clear-requires set-choice-requires mark-all-requires same-length returns)

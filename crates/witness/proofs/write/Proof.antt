@@ -28,13 +28,13 @@ inWorld c =
 
 -- everything that the item needs is marked, and then chosen
 begins : (c : tie.After-mark-from)
-    → ChoosesTo (inWorld (begun c)) (begun c .args .k) 1 0 0 (begun c .args .choices .now) true (c .mark-from .last .1 .1 .1 .1 .1 .1 .1 .1 .0)
+    → ChoosesTo (inWorld (begun c)) (begun c .args .k .0) 1 0 (begun c .args .choices .now) true (c .mark-from .last .1 .1 .1 .1 .1 .1 .1 .1 .0)
 begins c = let marks = c .mark-from .ensures in record { keeps = marks .keeps; choosing = choosing-begins (inWorld (begun c)) (marks .marking) }
 
 abbrev Chosen : tie.After-choose-all → Type 0
 Chosen c =
     let start = begun (marked-then c) in
-    ChoosesTo (inWorld start) (start .args .k) (start .args .k + 1) 0 0 (start .args .choices .now) true (c .choose-all .last .1 .1 .1 .1 .1 .1 .1 .1 .0)
+    ChoosesTo (inWorld start) (start .args .k .0) (start .args .k .0 + 1) 0 (start .args .choices .now) true (c .choose-all .last .1 .1 .1 .1 .1 .1 .1 .1 .0)
 
 all-chosen : (c : tie.After-choose-all) → c .choose-all .result ≡ true → Chosen c
 all-chosen c goes-on =
@@ -82,7 +82,7 @@ spell-requires c κs =
     let all = all-chosen at-all (c .before .before .before .before .if1 .taken) in
     let coded : Coded (choiceAt (a .count) choices (a .x) 0) =
     subst (λ (m : ℕ). Coded (choiceAt (a .count) choices m 0)) (sym last)
-    (choosing-ends w (a .k) (subst (λ (m : ℕ). weightIn w m 0 ≡ a .k) last weighs) (all .choosing)) in (
+    (choosing-ends w (a .k .0) (subst (λ (m : ℕ). weightIn w m 0 ≡ a .k .0) last weighs) (all .choosing)) in (
       small-kept w (p .0 .small) (all .keeps),
       (
         (omega (arith, at-all .choose-all .kept .1 .1 .1 .1 .1 .1 .1 .1 .1 .0), omega (arith, at-all .choose-all .kept .1 .1 .1 .1 .1 .1 .1 .1 .1 .1 .0)),
@@ -96,10 +96,14 @@ spell-requires c κs =
 cast-t40 : tie.Need-cast-t40
 cast-t40 c =
     let at-spell = c .before .before .before .before in
-    let p = begun (marked-then (at-spell .before .before .before .before .before .before .before .before .before .before .before .before)) .pre in omega (arith, at-spell .spell .ensures .counts, p .1 .1 .1, p .0 .bound)
+    let p = begun (marked-then (at-spell .before .before .before .before .before .before .before .before .before .before .before .before)) .pre in
+    omega (arith, at-spell .spell .ensures .counts, p .1 .1 .1, p .0 .bound)
 
 same-length : tie.Need-same-length
-same-length c = let at-spell = c .before .before .before .before in all-chosen (at-spell .before .before .before .before .before .before .before .before .before .before .before .before) (at-spell .before .before .before .before .before .if1 .taken) .keeps .long
+same-length c =
+    let at-spell = c .before .before .before .before in
+    let at-all = at-spell .before .before .before .before .before .before .before .before .before .before .before .before in
+    all-chosen at-all (at-spell .before .before .before .before .before .if1 .taken) .keeps .long
 
 same-length-2 : tie.Need-same-length-2
 same-length-2 c = search needs
@@ -112,10 +116,13 @@ returns c =
     let a = start .args in
     let p = start .pre in
     let all = all-chosen at-all (at-spell .before .before .before .before .before .if1 .taken) in
-    writes-series (inWorld start) (all .keeps) (a .x) (a .k) (at-spell .spell .result) (p .0) (p .1 .0) (p .1 .1 .1) (at-spell .spell .ensures)
+    writes-series (inWorld start) (all .keeps) (a .x) (a .k .0) (at-spell .spell .result) (p .0) (p .1 .0) (p .1 .1 .1) (at-spell .spell .ensures)
 
 same-length-3 : tie.Need-same-length-3
-same-length-3 c = let at-all = c .before .before .before .before .before .before .before in at-all .choose-all .ensures .keeps .long ∙ marked-then at-all .mark-from .ensures .keeps .long
+same-length-3 c =
+    let at-all = c .before .before .before .before .before .before .before in
+    let at-mark = marked-then at-all in
+    at-all .choose-all .ensures .keeps .long ∙ at-mark .mark-from .ensures .keeps .long
 
 returns-2 : tie.Need-returns-2
 returns-2 c =
@@ -123,8 +130,8 @@ returns-2 c =
     let at-mark = marked-then at-all in
     let start = begun at-mark in
     let w = inWorld start in
-    let none = chooses-stops w (at-all .choose-all .result) (begins at-mark) (at-all .choose-all .ensures) 0 0 0 (c .if1 .left) (omega arith) in
-    writes-stuck w (none .keeps) (start .args .k) (none .choosing)
+    let none = chooses-stops w (at-all .choose-all .result) (begins at-mark) (at-all .choose-all .ensures) 0 0 (c .if1 .left) (omega arith) in
+    writes-stuck w (none .keeps) (start .args .k .0) (none .choosing)
 
 pub write-spec : {M : Type 1} → statement M
 write-spec =

@@ -35,7 +35,8 @@ kept-first : (c : tie.After-set-choice Inv-loop μ-loop) → Keeps (inWorld (beg
 kept-first c =
     let start = begun c in
     let a = start .args in
-    subst (Keeps (inWorld start) (a .choices .now)) (sym (c .set-choice .ensures)) (keeps-stored (inWorld start) (a .choices .now) (a .x) (a .y) marked (start .pre .1))
+    subst (Keeps (inWorld start) (a .choices .now)) (sym (c .set-choice .ensures))
+    (keeps-stored (inWorld start) (a .choices .now) (a .x) (a .y) marked (start .pre .1))
 
 kept : (c : tie.At-loop Inv-loop μ-loop) → Keeps (inWorld (entered c)) (entered c .args .choices .now) (c .loop .choices)
 kept c =
@@ -71,7 +72,8 @@ returns c =
     let at-way = c .before .before .before in
     let at-loop = at-way .before .before .before in
     let start = entered at-loop in
-    ways-decided (inWorld start) (start .args .x) (start .args .y) (start .args .choices .now) (at-loop .before .before .before .before .set-choice .ensures) (at-loop .loop .d) (at-loop .loop .inv .1) (at-way .mark-way .ensures) (c .if1 .taken)
+    ways-decided (inWorld start) (start .args .x) (start .args .y) (start .args .choices .now)
+    (at-loop .before .before .before .before .set-choice .ensures) (at-loop .loop .d) (at-loop .loop .inv .1) (at-way .mark-way .ensures) (c .if1 .taken)
 
 add-d : tie.Need-add-d Inv-loop μ-loop
 add-d c = search needs
@@ -93,7 +95,8 @@ returns-2 : tie.Need-returns-2 Inv-loop μ-loop
 returns-2 c =
     let at-loop = c .before in
     let start = entered at-loop in
-    ways-all (inWorld start) (start .args .x) (start .args .y) (start .args .choices .now) (at-loop .before .before .before .before .set-choice .ensures) (at-loop .loop .d) (start .pre .1 .0)
+    ways-all (inWorld start) (start .args .x) (start .args .y) (start .args .choices .now)
+    (at-loop .before .before .before .before .set-choice .ensures) (at-loop .loop .d) (start .pre .1 .0)
     (omega (arith, c .loop-test .left, at-loop .before .ways .ensures)) (at-loop .loop .inv .1)
 
 pub mark-spec : {M : Type 1} → statement M

@@ -6,7 +6,7 @@ use Rattle.refusals.proofs.Telling.{told, told-not}
 use Rattle.derivations.specs.Derivations.{Alone, Tight}
 use Rattle.derivations.specs.Ways.{World, world, partsIn, weightIn}
 use Rattle.witness.specs.Marking.{PartsWithin, withNeeds}
-use Rattle.witness.proofs.Ranks.{tight-lower}
+use Rattle.witness.proofs.Lowering.{tight-lower}
 use Rattle.witness.proofs.Marks.{parts-within, marks-tight, marks-loose}
 use borrow.Author.Needs.{needs}
 use Rattle.witness.proofs.marking.mark_way.Statement.{statement}
@@ -28,7 +28,8 @@ IsTight c = Tight (weightIn (inWorld c)) (c .args .x) (c .args .y) (partsIn (inW
 tight : (c : tie.After-is-tight) → c .is-tight .result ≡ true → IsTight (begun (c .before))
 tight c is-true =
     let start = begun (c .before) in
-    subst (Tight (weightIn (inWorld start)) (start .args .x) (start .args .y)) (c .before .parts .ensures) (told (c .is-tight .result) is-true (c .is-tight .ensures))
+    subst (Tight (weightIn (inWorld start)) (start .args .x) (start .args .y)) (c .before .parts .ensures)
+    (told (c .is-tight .result) is-true (c .is-tight .ensures))
 
 parts-requires : tie.Need-parts-requires
 parts-requires c κs = search needs

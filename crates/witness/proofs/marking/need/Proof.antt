@@ -30,7 +30,8 @@ returns-2 c =
     let at-choice = at-if2 .before in
     let a = begun at-choice .args in
     c .before .before .set-choice .ensures
-    ∙ sym (need-new (a .count) (a .choices .now) (a .x) (a .y) (at-choice .before .before .if1 .left) (sym (at-choice .choice .ensures .0) ∙ at-if2 .if2 .taken))
+    ∙ sym
+    (need-new (a .count) (a .choices .now) (a .x) (a .y) (at-choice .before .before .if1 .left) (sym (at-choice .choice .ensures .0) ∙ at-if2 .if2 .taken))
 
 same-length-2 : tie.Need-same-length-2
 same-length-2 c = search needs

@@ -14,22 +14,25 @@ use Rattle.witness.proofs.sweeping.choose_all.Tie as tie
 
 abbrev Inv-loop : tie.InvT-loop
 Inv-loop target count letters rests children-r children-s wholes counts choices₀ xs₀ ys₀ us₀ vs₀ most k₀ choices xs ys us vs k =
-    ((1 ≤ k) × (k ≤ most + 1))
-    × ChoosesTo (world count letters rests children-r children-s wholes target counts) most k 0 0 choices₀ true choices
+    ((1 ≤ k) × (k ≤ most .0 + 1))
+    × ChoosesTo (world count letters rests children-r children-s wholes target counts) (most .0) k 0 choices₀ true choices
     × (length xs ≡ length xs₀)
     × (length ys ≡ length ys₀)
     × (length us ≡ length us₀)
     × (length vs ≡ length vs₀)
 
 abbrev μ-loop : tie.MeasureT-loop
-μ-loop target count letters rests children-r children-s wholes counts choices₀ xs₀ ys₀ us₀ vs₀ most k₀ choices xs ys us vs k = most + 1 - k
+μ-loop target count letters rests children-r children-s wholes counts choices₀ xs₀ ys₀ us₀ vs₀ most k₀ choices xs ys us vs k = most .0 + 1 - k
 
--- the first state, from the loop; the loop, from a turn; and the items
+-- the first state, from the loop; the loop, from a turn; the turn, from its end; and the items
 abbrev entered : tie.At-loop Inv-loop μ-loop → tie.Start Inv-loop μ-loop
 entered c = c .before .before .before .before .before .before .before .before .before .before .before .before .before
 
 abbrev turned : tie.After-choose-weight Inv-loop μ-loop → tie.At-loop Inv-loop μ-loop
-turned c = c .before .before .before .before .before .before .before
+turned c = c .before .before .before .before .before .before .before .before
+
+abbrev came : tie.After-slice-known10 Inv-loop μ-loop → tie.After-choose-weight Inv-loop μ-loop
+came c = c .before .before .before .before .before .before .before .before .before .before
 
 abbrev inWorld : tie.Start Inv-loop μ-loop → World
 inWorld c =
@@ -39,36 +42,36 @@ inWorld c =
 loop-holds : tie.Need-loop-holds Inv-loop μ-loop
 loop-holds c =
     let start = c .before .before .before .before .before .before .before .before .before .before .before .before in
-    ((omega arith, omega arith), chooses-none (inWorld start) (start .args .most) 1 0 0 (start .pre .1 .1 .1), refl, refl, refl, refl)
+    ((omega arith, omega arith), chooses-none (inWorld start) (start .args .most .0) 1 0 (start .pre .1 .1 .1), refl, refl, refl, refl)
 
 choose-weight-requires : tie.Need-choose-weight-requires Inv-loop μ-loop
 choose-weight-requires c κs =
-    let at-loop = c .before .before .before .before .before .before in
+    let at-loop = c .before .before .before .before .before .before .before in
     let start = entered at-loop in
     let p = start .pre in
     let s = p .1 .1 .0 in
     let v = at-loop .loop .inv in (
       small-kept (inWorld start) (p .0) (v .1 .keeps),
       (
-        (v .0 .0, omega (arith, c .before .before .before .before .before .loop-test .taken, p .1 .0)),
+        (v .0 .0, omega (arith, c .before .before .before .before .before .if1 .taken, p .1 .0)),
         ((omega (arith, s .0, v .2), omega (arith, s .1, v .3), omega (arith, s .2, v .4), omega (arith, s .3, v .5)), v .1 .choosing),
       ),
     )
 
 add-k : tie.Need-add-k Inv-loop μ-loop
-add-k c = let at-loop = turned (c .before .before .before .before .before .before .before .before .before .before .before) in omega (arith, at-loop .loop .inv .0 .1, entered at-loop .pre .1 .0)
+add-k c = let at-loop = turned (came (c .before)) in omega (arith, at-loop .loop .inv .0 .1, entered at-loop .pre .1 .0)
 
 loop-less : tie.Need-loop-less Inv-loop μ-loop
 loop-less c = search needs
 
 loop-again : tie.Need-loop-again Inv-loop μ-loop
 loop-again c =
-    let at-weight = c .before .before .before .before .before .before .before .before .before .before .before in
+    let at-weight = came (c .before) in
     let at-loop = turned at-weight in
     let v = at-loop .loop .inv in
     let k = at-weight .choose-weight .kept in (
-      (omega arith, omega (arith, at-weight .before .before .before .before .before .before .loop-test .taken)),
-      chooses-then (inWorld (entered at-loop)) (at-weight .choose-weight .result) (v .1) (at-weight .choose-weight .ensures) (c .if1 .taken),
+      (omega arith, omega (arith, at-weight .before .before .before .before .before .before .if1 .taken)),
+      chooses-then (inWorld (entered at-loop)) (at-weight .choose-weight .result) (v .1) (at-weight .choose-weight .ensures) (c .if2 .taken),
       k .1 .1 .1 .1 .1 .1 .1 .1 .1 .0 ∙ v .2,
       k .1 .1 .1 .1 .1 .1 .1 .1 .1 .1 .0 ∙ v .3,
       k .1 .1 .1 .1 .1 .1 .1 .1 .1 .1 .1 .0 ∙ v .4,
@@ -76,50 +79,50 @@ loop-again c =
     )
 
 same-length : tie.Need-same-length Inv-loop μ-loop
-same-length c = let at-weight = c .before .before .before .before .before .before .before .before .before .before .before in at-weight .choose-weight .ensures .keeps .long ∙ turned at-weight .loop .inv .1 .keeps .long
+same-length c = let at-weight = came (c .before) in at-weight .choose-weight .ensures .keeps .long ∙ turned at-weight .loop .inv .1 .keeps .long
 
 same-length-2 : tie.Need-same-length-2 Inv-loop μ-loop
-same-length-2 c = let at-weight = c .before .before .before .before .before .before .before .before .before .before .before in at-weight .choose-weight .kept .1 .1 .1 .1 .1 .1 .1 .1 .1 .0 ∙ turned at-weight .loop .inv .2
+same-length-2 c = let at-weight = came (c .before) in at-weight .choose-weight .kept .1 .1 .1 .1 .1 .1 .1 .1 .1 .0 ∙ turned at-weight .loop .inv .2
 
 same-length-3 : tie.Need-same-length-3 Inv-loop μ-loop
-same-length-3 c = let at-weight = c .before .before .before .before .before .before .before .before .before .before .before in at-weight .choose-weight .kept .1 .1 .1 .1 .1 .1 .1 .1 .1 .1 .0 ∙ turned at-weight .loop .inv .3
+same-length-3 c = let at-weight = came (c .before) in at-weight .choose-weight .kept .1 .1 .1 .1 .1 .1 .1 .1 .1 .1 .0 ∙ turned at-weight .loop .inv .3
 
 same-length-4 : tie.Need-same-length-4 Inv-loop μ-loop
-same-length-4 c = let at-weight = c .before .before .before .before .before .before .before .before .before .before .before in at-weight .choose-weight .kept .1 .1 .1 .1 .1 .1 .1 .1 .1 .1 .1 .0 ∙ turned at-weight .loop .inv .4
+same-length-4 c = let at-weight = came (c .before) in at-weight .choose-weight .kept .1 .1 .1 .1 .1 .1 .1 .1 .1 .1 .1 .0 ∙ turned at-weight .loop .inv .4
 
 same-length-5 : tie.Need-same-length-5 Inv-loop μ-loop
-same-length-5 c = let at-weight = c .before .before .before .before .before .before .before .before .before .before .before in at-weight .choose-weight .kept .1 .1 .1 .1 .1 .1 .1 .1 .1 .1 .1 .1 .0 ∙ turned at-weight .loop .inv .5
+same-length-5 c = let at-weight = came (c .before) in at-weight .choose-weight .kept .1 .1 .1 .1 .1 .1 .1 .1 .1 .1 .1 .1 .0 ∙ turned at-weight .loop .inv .5
 
 returns : tie.Need-returns Inv-loop μ-loop
 returns c =
-    let at-weight = c .before .before .before .before .before .before .before .before .before .before .before in
+    let at-weight = came (c .before) in
     let at-loop = turned at-weight in
-    chooses-stops (inWorld (entered at-loop)) (at-weight .choose-weight .result) (at-loop .loop .inv .1) (at-weight .choose-weight .ensures) _ 0 0 (c .if1 .left)
-    (omega (arith, at-weight .before .before .before .before .before .before .loop-test .taken))
+    chooses-stops (inWorld (entered at-loop)) (at-weight .choose-weight .result) (at-loop .loop .inv .1) (at-weight .choose-weight .ensures) _ 0 (c .if2 .left)
+    (omega (arith, at-weight .before .before .before .before .before .before .if1 .taken))
 
 same-length-6 : tie.Need-same-length-6 Inv-loop μ-loop
-same-length-6 c = c .before .loop .inv .1 .keeps .long
+same-length-6 c = c .before .before .loop .inv .1 .keeps .long
 
 same-length-7 : tie.Need-same-length-7 Inv-loop μ-loop
-same-length-7 c = c .before .loop .inv .2
+same-length-7 c = c .before .before .loop .inv .2
 
 same-length-8 : tie.Need-same-length-8 Inv-loop μ-loop
-same-length-8 c = c .before .loop .inv .3
+same-length-8 c = c .before .before .loop .inv .3
 
 same-length-9 : tie.Need-same-length-9 Inv-loop μ-loop
-same-length-9 c = c .before .loop .inv .4
+same-length-9 c = c .before .before .loop .inv .4
 
 same-length-10 : tie.Need-same-length-10 Inv-loop μ-loop
-same-length-10 c = c .before .loop .inv .5
+same-length-10 c = c .before .before .loop .inv .5
 
 returns-2 : tie.Need-returns-2 Inv-loop μ-loop
 returns-2 c =
-    let at-loop = c .before in
+    let at-loop = c .before .before in
     let start = entered at-loop in
     let a = start .args in
     let v = at-loop .loop .inv in
-    let last : at-loop .loop .k ≡ a .most + 1 = omega (arith, c .loop-test .left, v .0 .1) in
-    subst (λ (m : ℕ). ChoosesTo (inWorld start) (a .most) m 0 0 (a .choices .now) true (at-loop .loop .choices)) last (v .1)
+    let last : at-loop .loop .k ≡ a .most .0 + 1 = omega (arith, c .if1 .left, v .0 .1) in
+    subst (λ (m : ℕ). ChoosesTo (inWorld start) (a .most .0) m 0 (a .choices .now) true (at-loop .loop .choices)) last (v .1)
 
 pub choose-all-spec : {M : Type 1} → statement M
 choose-all-spec =
