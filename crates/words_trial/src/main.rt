@@ -3,13 +3,13 @@
 use words::Tested;
 use words::Written;
 ghost use mathlib.Core.Path.{_≡_};
-ghost use Prim.Native.Nat.{_*_};
+ghost use Prim.Native.Nat.{_+_, _*_, _^_, _<_};
 ghost use lib.ListN.{length};
 ghost use Rattle.words.specs.Word.{nf, inverse};
 ghost use Rattle.words.specs.Bytes.{word as wordOf, bytes};
 ghost use Rattle.refusals.specs.Questions.{ofWord};
 ghost use Rattle.words.specs.Calls.{written};
-ghost use Rattle.words_trial.specs.Period.{byteAt, withS};
+ghost use Rattle.words_trial.specs.Period.{byteIn, nextColumn, withS};
 
 fn print_written(answer: Written) {
     match answer {
@@ -80,17 +80,26 @@ fn long(word: &[u8]) {
     is_normal(word);
 }
 
-// What stands at place i, where b stood: S, unless the period divides i. A period of 0 puts S nowhere.
-fn byte_at(b: u8, i: usize, period: usize) -> u8
-    ensures { λ r. ⌜ r ≡ byteAt period i b ⌝ }
+// What stands in a column, where b stood: S, unless the column is the first.
+fn byte_in(b: u8, column: usize) -> u8
+    ensures { λ r. ⌜ r ≡ byteIn column b ⌝ }
 {
-    if period == 0 {
-        return b;
-    }
-    if i % period == 0 {
+    if column == 0 {
         return b;
     }
     83
+}
+
+// The column after a column, of as many as the period has places.
+fn next_column(column: usize, period: usize) -> usize
+    requires { ⌜ column + 1 < 2 ^ 64 ⌝ }
+    ensures { λ r. ⌜ r ≡ nextColumn period column ⌝ }
+{
+    let next = column + 1;
+    if next < period {
+        return next;
+    }
+    0
 }
 
 // Puts S at every place that is no multiple of the period.
@@ -98,8 +107,10 @@ fn put_s(word: &mut [u8], period: usize)
     ensures { λ _. ⌜ now (word .exit) ≡ withS period 0 (now (word .entry)) ⌝ }
 {
     let mut i = 0;
+    let mut column = 0;
     while i < word.len() {
-        word[i] = byte_at(word[i], i, period);
+        word[i] = byte_in(word[i], column);
+        column = next_column(column, period);
         i += 1;
     }
 }
