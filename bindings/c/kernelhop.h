@@ -39,7 +39,7 @@ enum {
     KERNELHOP_STACK = 131072
 };
 
-/* The release that is linked: 10,000 times its major number, 100 times its minor one, and its patch number. So release 1.2.0 is 10200, and a later
+/* The release that is linked: 10,000 times its major number, 100 times its minor one, and its patch number. So release 1.3.0 is 10300, and a later
    release has a larger number. */
 uint32_t kernelhop_version(void);
 

@@ -41,7 +41,7 @@ static struct kernelhop_outcome word_to_matrix(const char *word, int64_t out[4])
 }
 
 static void version(void) {
-    CHECK(kernelhop_version() >= 10200);
+    CHECK(kernelhop_version() >= 10300);
 }
 
 static void words(void) {

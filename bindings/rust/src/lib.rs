@@ -62,7 +62,7 @@ fn text(letters: &[u8]) -> String {
     letters.iter().map(|&letter| char::from(letter)).collect()
 }
 
-/// The release of the library that answers, such as `1.2.0`.
+/// The release of the library that answers, such as `1.3.0`.
 pub fn version() -> String {
     let release = lent::version();
     format!(

@@ -31,9 +31,9 @@ pub struct Outcome {
 // Which release this library is, as one number (`release` of specs/). It has its one home here, in the promise and in the code: whoever else needs it asks.
 #[no_mangle]
 pub extern "C" fn kernelhop_version() -> u32
-    ensures { λ r. ⌜ r ≡ release 1 2 0 ⌝ }
+    ensures { λ r. ⌜ r ≡ release 1 3 0 ⌝ }
 {
-    10_200
+    10_300
 }
 
 // The same as words::reduce.
