@@ -2,7 +2,7 @@
 //! series may be made of is marked from the last row downwards; then a way is chosen for each of those, upwards, so that its parts have theirs. Two ways are
 //! compared by spelling both at once.
 
-use super::{has, Tree, LARGEST_BOUND, R, S};
+use super::{Tree, LARGEST_BOUND, R, S};
 
 /// What a series is made of, one behind the other: a factor, or an entry of the table of counts, by its row and its node. The numbers are as wide as the processor's:
 /// smaller ones the compiler writes one by one and reads together, the processor waits for that, and the comparisons take nearly twice the time.
@@ -192,17 +192,53 @@ fn need(width: usize, choices: &mut [u16], item: Item) {
     }
 }
 
+/// How many places of the table a sweep looks at together, before it looks at each.
+const BLOCK: usize = 256;
+
+/// Whether some choice is in that state where the count is k.
+fn has_due(choices: &[u16], counts: &[u16], state: u16, k: u16) -> bool {
+    choices
+        .iter()
+        .zip(counts)
+        .fold(false, |due, (&choice, &count)| {
+            due | ((choice == state) & (count == k))
+        })
+}
+
+/// The row of a place, carried along from another.
+fn row_of(place: usize, mut row: usize, width: usize) -> usize {
+    let mut start = row * width;
+    while start + width <= place {
+        start += width;
+        row += 1;
+    }
+    while place < start {
+        start -= width;
+        row -= 1;
+    }
+    row
+}
+
 /// Marks all that the needed entries need. Parts have fewer factors, or as many and stand in a row above.
 fn mark_all(counts: &Counts, choices: &mut [u16], most: u16) {
     let width = counts.tree.count;
+    let end = counts.rows() * width;
     for k in (1..=most).rev() {
-        for x in (0..counts.rows()).rev() {
-            let row = x * width..(x + 1) * width;
-            if !has(&choices[row.clone()], |choice| choice == NEEDED) {
+        let mut x = counts.rows() - 1;
+        for from in (0..end).step_by(BLOCK).rev() {
+            let block = from..end.min(from + BLOCK);
+            if !has_due(
+                &choices[block.clone()],
+                &counts.counts[block.clone()],
+                NEEDED,
+                k,
+            ) {
                 continue;
             }
-            for (y, place) in row.enumerate() {
+            for place in block.rev() {
                 if choices[place] == NEEDED && counts.counts[place] == k {
+                    x = row_of(place, x, width);
+                    let y = place - x * width;
                     choices[place] = MARKED;
                     counts.candidates(x, y, |_, parts| match parts {
                         Parts::One(item) => need(width, choices, item),
@@ -315,14 +351,23 @@ fn best_way(
 /// Chooses a way for each entry that is marked.
 fn choose_all(counts: &Counts, choices: &mut [u16], most: u16, one: &mut Stack, other: &mut Stack) {
     let width = counts.tree.count;
+    let end = counts.rows() * width;
     for k in 1..=most {
-        for x in 0..counts.rows() {
-            let row = x * width..(x + 1) * width;
-            if !has(&choices[row.clone()], |choice| choice == MARKED) {
+        let mut x = 0;
+        for from in (0..end).step_by(BLOCK) {
+            let block = from..end.min(from + BLOCK);
+            if !has_due(
+                &choices[block.clone()],
+                &counts.counts[block.clone()],
+                MARKED,
+                k,
+            ) {
                 continue;
             }
-            for (y, place) in row.enumerate() {
+            for place in block {
                 if choices[place] == MARKED && counts.counts[place] == k {
+                    x = row_of(place, x, width);
+                    let y = place - x * width;
                     choices[place] = best_way(counts, choices, x, y, one, other) as u16 + 1;
                 }
             }
