@@ -12,7 +12,7 @@ use lib.ListN.{length, length-map}
 use Rattle.words.specs.Word.{Word}
 use Rattle.words.specs.Bytes.{letter, word}
 use Rattle.words.proofs.Reduced.{Reduced, reduced-of-normal}
-use Rattle.products.specs.Product.{measure, NoneRight, MemberRight}
+use Rattle.products.specs.Product.{measure, NoneRight, MemberRight, plain}
 use Rattle.products.proofs.RowFirsts.{RowFirst}
 use Rattle.products.proofs.Verdict.{verdict-none, verdict-first}
 use Rattle.derivations.specs.Derivations.{Tight, Firsts, Attained}
@@ -56,12 +56,12 @@ module _ {gens words : List Word} {n : ℕ} {w : World} (query : Query gens word
       (rows-first query (length (w .target)) 0 (omega arith) (root-inside query) f within)
 
   pub derived-right : (r : List ℕ) → Firsts (partsIn w) (weightIn w) (whole w) 0 r → weightIn w (whole w) 0 ≤ n
-      → MemberRight gens (word (w .target)) n r (length r)
+      → MemberRight (plain gens) (word (w .target)) n r (length r)
   derived-right r f within =
       verdict-first gens n (entryAt words w) (word (w .target)) (rowIn words w) (reduced query) (entries-exact query) (rows-closed query) target-reduced
       (query .target-some) r (last-first r f within) (omega (arith, last-entry))
 
-  pub none-right : n < weightIn w (whole w) 0 → NoneRight gens (word (w .target)) n
+  pub none-right : n < weightIn w (whole w) 0 → NoneRight (plain gens) (word (w .target)) n
   none-right above =
       verdict-none gens n (entryAt words w) (word (w .target)) (rowIn words w) (reduced query) (entries-exact query) (rows-closed query) target-reduced
       (query .target-some) (omega (arith, last-entry))

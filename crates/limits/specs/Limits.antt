@@ -32,6 +32,17 @@ mostFactors = 1000
 abbrev pub mostOfInverse : ℕ
 mostOfInverse = 2 * mostLetters
 
+-- a list with the inverses of its generators behind it: as many generators again, and letters as `signed-short` of lists says
+abbrev pub mostSignedGenerators : ℕ
+mostSignedGenerators = 2 * mostGenerators
+
+abbrev pub mostOfSignedList : ℕ
+mostOfSignedList = 832
+
+-- 14, 02, M-103: "The inverse slice must hold 640 bytes, which question 14 now covers."
+abbrev pub inversesSlice : ℕ
+inversesSlice = 640
+
 -- one state for each letter of the normal forms, and the empty word
 abbrev pub mostStates : ℕ
-mostStates = mostOfList + 1
+mostStates = mostOfSignedList + 1

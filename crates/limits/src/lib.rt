@@ -20,7 +20,21 @@ pub const LIST_LETTERS: u16 = 320;
 pub const LIST_ROOM: usize = LIST_LETTERS as usize;
 
 // The states of a list: one for each letter of its normal forms, and the empty word.
-pub const STATES_ROOM: usize = LIST_ROOM + 1;
+pub const LIST_STATES: usize = LIST_ROOM + 1;
+
+// A list with the inverses of its generators behind it. In an inverse's normal form an R stays and S becomes SS, so all of them together have at most half
+// as many letters again as the list, and half a letter more for each generator.
+pub const SIGNED_GENERATORS: usize = 2 * GENERATORS;
+
+pub const SIGNED_LETTERS: u16 = 832;
+
+pub const SIGNED_ROOM: usize = SIGNED_LETTERS as usize;
+
+// The states of such a list, and so the most that any list has.
+pub const STATES_ROOM: usize = SIGNED_ROOM + 1;
+
+// Question 14: the lent slice for the inverses' normal forms.
+pub const INVERSES_SLICE: usize = 640;
 
 // Question 12: the letters of the normal form of a target, a word that is turned into its matrix, or a matrix.
 pub const FORM_LETTERS: u16 = 80;

@@ -1,3 +1,4 @@
+pub mod Series
 pub mod Null
 pub mod States
 pub mod Runs
@@ -6,7 +7,10 @@ pub mod Induction
 pub mod FirstLetter
 pub mod Tables
 pub mod Rows
+pub mod Alike
 pub mod Reducing
+pub mod Doubled
+pub mod Subgroups
 pub mod Rivals
 pub mod Exact
 pub mod Order

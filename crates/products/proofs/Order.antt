@@ -8,12 +8,13 @@ use mathlib.Core.Path.{_≡_, refl, sym, ap, _∙_}
 use mathlib.Core.Logic.{_≢_, _⊎_, inl, inr}
 use mathlib.Core.List.{List, [], _∷_, _++_, head-eq-of-cons-eq, tail-eq-of-cons-eq}
 use Prim.Native.Nat.{ℕ, _+_, _≤_}
+use native.Mathlib.Nat.{le-refl}
 use native.Mathlib.Omega.{arith}
 use native.Mathlib.Decide.{decLt}
 use lib.ListN.{length}
 use Rattle.words.specs.Word.{Word}
-use Rattle.products.specs.Product.{Factor, Each, Reaches, measure, Rival, MemberRight, Before, smaller, further}
-use Rattle.products.proofs.Exact.{measure-append, measure-factor}
+use Rattle.products.specs.Product.{Family, Each, Reaches, measure, Rival, MemberRight, Before, smaller, further}
+use Rattle.products.proofs.Exact.{measure-append}
 
 pub before-differs : {r s : List ℕ} → Before r s → r ≢ s
 before-differs (smaller h) e = absurd (omega (arith, head-eq-of-cons-eq e))
@@ -125,14 +126,14 @@ module _ (P : ℕ → Type 0)
       same (inr b) = absurd (f .first s (g .in-class) (weigh s r g f) b)
 
 -- Two right members are the same: a verdict is a function of the list, the target and the bound.
-pub member-unique : (gens : List Word) (target : Word) (n : ℕ) (r s : List ℕ) (k l : ℕ)
-    → MemberRight gens target n r k → MemberRight gens target n s l → (r ≡ s) × (k ≡ l)
-member-unique gens target n r s k l f g = (same, f .counts ∙ ap length same ∙ sym (g .counts))
+pub member-unique : (family : Family) (target : Word) (n : ℕ) (r s : List ℕ) (k l : ℕ)
+    → MemberRight family target n r k → MemberRight family target n s l → (r ≡ s) × (k ≡ l)
+member-unique family target n r s k l f g = (same, f .counts ∙ ap length same ∙ sym (g .counts))
   where
     Reaching : List ℕ → Type 0
-    Reaching t = Rival gens n t × Reaches gens t target
+    Reaching t = Rival family n t × Reaches family t target
 
-    of : (t : List ℕ) (m : ℕ) → MemberRight gens target n t m → LeastFirst measure Reaching t
+    of : (t : List ℕ) (m : ℕ) → MemberRight family target n t m → LeastFirst measure Reaching t
     of t m right =
         record {
           in-class = (right .rival, right .reaches);
@@ -141,4 +142,4 @@ member-unique gens target n r s k l f g = (same, f .counts ∙ ap length same �
         }
 
     same : r ≡ s
-    same = least-first-unique (Factor gens) measure measure-append (measure-factor gens) Reaching (λ t c. c .0 .series) r s (of r k f) (of s l g)
+    same = least-first-unique (family .Number) measure measure-append (λ j f. le-refl 1) Reaching (λ t c. c .0 .series) r s (of r k f) (of s l g)

@@ -1,41 +1,16 @@
 -- Reducing the generators and the target first changes no verdict.
 -- Assumes nothing.
 use mathlib.Core.Path.{_≡_, refl, sym, ap, _∙_}
-use mathlib.Core.Logic.{_↔_, Iff·trans, Iff·symm}
+use mathlib.Core.Logic.{_↔_, Iff·trans}
 use mathlib.Core.List.{List, [], _∷_, map}
 use Prim.Native.Nat.{ℕ}
 use lib.ListN.{getD, length-map, List·getD-map}
 use Rattle.words.specs.Word.{Word, Equal, none, back, then, nf}
 use Rattle.words.proofs.NormalForm.{equal-path, equal-append, equal-nf, nf-reduced}
-use Rattle.products.specs.Product.{generator, Series, letters, Reaches, Rival, NoneRight, MemberRight, YesRight, NoRight}
+use Rattle.products.specs.Product.{generator, Factor, plain, Series, letters, Reaches, NoneRight, MemberRight, YesRight, NoRight}
+use Rattle.products.proofs.Series.{each-on}
+use Rattle.products.proofs.Alike.{Alike, none-alike, member-alike, yes-alike, no-alike}
 use Rattle.products.proofs.OneStep.{AllReduced}
-
--- Verdicts on two lists and two targets are alike where the same series are products and the same series reach.
-module _ (g h : List Word) (t u : Word) (series : (r : List ℕ) → Series g r ↔ Series h r) (reaches : (r : List ℕ) → Reaches g r t ↔ Reaches h r u) where
-  rival-there : {n : ℕ} {r : List ℕ} → Rival g n r → Rival h n r
-  rival-there {n} {r} k = record { series = series r .0 (k .series); counted = k .counted; within = k .within }
-
-  rival-back : {n : ℕ} {r : List ℕ} → Rival h n r → Rival g n r
-  rival-back {n} {r} k = record { series = series r .1 (k .series); counted = k .counted; within = k .within }
-
-  none-alike : (n : ℕ) → NoneRight g t n → NoneRight h u n
-  none-alike n right r k e = right r (rival-back k) (reaches r .1 e)
-
-  member-alike : (n : ℕ) (factors : List ℕ) (count : ℕ) → MemberRight g t n factors count → MemberRight h u n factors count
-  member-alike n factors count right =
-      record {
-        rival = rival-there (right .rival);
-        reaches = reaches factors .0 (right .reaches);
-        counts = right .counts;
-        least = λ r k e. right .least r (rival-back k) (reaches r .1 e);
-        first = λ r k e m b. right .first r (rival-back k) (reaches r .1 e) m b;
-      }
-
-  yes-alike : YesRight g t → YesRight h u
-  yes-alike (r, s, c, e) = (r, series r .0 s, c, reaches r .0 e)
-
-  no-alike : NoRight g t → NoRight h u
-  no-alike right r s c e = right r (series r .1 s) c (reaches r .1 e)
 
 nf-nothing : nf [] ≡ []
 unfolding nf
@@ -53,48 +28,54 @@ module _ (gens : List Word) where
   reduced-letters [] = none
   reduced-letters (j ∷ r) = equal-append (then (equal-path (reduced-generator j)) (back (equal-nf (generator gens j)))) (reduced-letters r)
 
-  pub reduced-reaches : (r : List ℕ) (target : Word) → Reaches (map nf gens) r target ↔ Reaches gens r target
+  pub reduced-reaches : (r : List ℕ) (target : Word) → Reaches (plain (map nf gens)) r target ↔ Reaches (plain gens) r target
   reduced-reaches r target = ((λ e. then (back (reduced-letters r)) e), (λ e. then (reduced-letters r) e))
 
-  pub target-reaches : (r : List ℕ) (target : Word) → Reaches gens r (nf target) ↔ Reaches gens r target
+  pub target-reaches : (r : List ℕ) (target : Word) → Reaches (plain gens) r (nf target) ↔ Reaches (plain gens) r target
   target-reaches r target = ((λ e. then e (back (equal-nf target))), (λ e. then e (equal-nf target)))
 
   pub reduced-series : (r : List ℕ) → Series (map nf gens) r ↔ Series gens r
-  reduced-series r = (there r, again r)
-    where
-      there : (r : List ℕ) → Series (map nf gens) r → Series gens r
-      there [] s = tt
-      there (j ∷ r) s = (rw (length-map gens nf) at (s .0), there r (s .1))
-
-      again : (r : List ℕ) → Series gens r → Series (map nf gens) r
-      again [] s = tt
-      again (j ∷ r) s = (rw (length-map gens nf) (s .0), again r (s .1))
+  reduced-series r =
+      (each-on (Factor (map nf gens)) (λ j h. rw (length-map gens nf) at h) r, each-on (Factor gens) (λ j h. rw (length-map gens nf) h) r)
 
   -- the reduced list with the reduced target, and the list and the target as they are given
-  both-reach : (target : Word) (r : List ℕ) → Reaches (map nf gens) r (nf target) ↔ Reaches gens r target
+  both-reach : (target : Word) (r : List ℕ) → Reaches (plain (map nf gens)) r (nf target) ↔ Reaches (plain gens) r target
   both-reach target r = Iff·trans (reduced-reaches r (nf target)) (target-reaches r target)
 
-  pub none-reduced : (target : Word) (n : ℕ) → NoneRight (map nf gens) (nf target) n ↔ NoneRight gens target n
-  none-reduced target n = (
-    none-alike (map nf gens) gens (nf target) target reduced-series (both-reach target) n,
-    none-alike gens (map nf gens) target (nf target) (λ r. Iff·symm (reduced-series r)) (λ r. Iff·symm (both-reach target r)) n,
-  )
+  -- a verdict on the one is a verdict on the other, with the same factors
+  given-alike : (target : Word) → Alike (plain (map nf gens)) (plain gens) (nf target) target (λ r. r) (λ r. r)
+  given-alike target =
+      record {
+        series-there = λ r s. reduced-series r .0 s;
+        series-back = λ r s. reduced-series r .1 s;
+        reaches-there = λ r s e. both-reach target r .0 e;
+        reaches-back = λ r s e. both-reach target r .1 e;
+        length-there = λ r. refl;
+        length-back = λ r. refl;
+        before-back = λ r s t u b. b;
+      }
+
+  reduced-alike : (target : Word) → Alike (plain gens) (plain (map nf gens)) target (nf target) (λ r. r) (λ r. r)
+  reduced-alike target =
+      record {
+        series-there = λ r s. reduced-series r .1 s;
+        series-back = λ r s. reduced-series r .0 s;
+        reaches-there = λ r s e. both-reach target r .1 e;
+        reaches-back = λ r s e. both-reach target r .0 e;
+        length-there = λ r. refl;
+        length-back = λ r. refl;
+        before-back = λ r s t u b. b;
+      }
+
+  pub none-reduced : (target : Word) (n : ℕ) → NoneRight (plain (map nf gens)) (nf target) n ↔ NoneRight (plain gens) target n
+  none-reduced target n = (none-alike (given-alike target) n, none-alike (reduced-alike target) n)
 
   pub member-reduced : (target : Word) (n : ℕ) (factors : List ℕ) (count : ℕ)
-      → MemberRight (map nf gens) (nf target) n factors count ↔ MemberRight gens target n factors count
-  member-reduced target n factors count = (
-    member-alike (map nf gens) gens (nf target) target reduced-series (both-reach target) n factors count,
-    member-alike gens (map nf gens) target (nf target) (λ r. Iff·symm (reduced-series r)) (λ r. Iff·symm (both-reach target r)) n factors count,
-  )
+      → MemberRight (plain (map nf gens)) (nf target) n factors count ↔ MemberRight (plain gens) target n factors count
+  member-reduced target n factors count = (member-alike (given-alike target) n factors count, member-alike (reduced-alike target) n factors count)
 
-  pub yes-reduced : (target : Word) → YesRight (map nf gens) (nf target) ↔ YesRight gens target
-  yes-reduced target = (
-    yes-alike (map nf gens) gens (nf target) target reduced-series (both-reach target),
-    yes-alike gens (map nf gens) target (nf target) (λ r. Iff·symm (reduced-series r)) (λ r. Iff·symm (both-reach target r)),
-  )
+  pub yes-reduced : (target : Word) → YesRight (plain (map nf gens)) (nf target) ↔ YesRight (plain gens) target
+  yes-reduced target = (yes-alike (given-alike target), yes-alike (reduced-alike target))
 
-  pub no-reduced : (target : Word) → NoRight (map nf gens) (nf target) ↔ NoRight gens target
-  no-reduced target = (
-    no-alike (map nf gens) gens (nf target) target reduced-series (both-reach target),
-    no-alike gens (map nf gens) target (nf target) (λ r. Iff·symm (reduced-series r)) (λ r. Iff·symm (both-reach target r)),
-  )
+  pub no-reduced : (target : Word) → NoRight (plain (map nf gens)) (nf target) ↔ NoRight (plain gens) target
+  no-reduced target = (no-alike (given-alike target), no-alike (reduced-alike target))

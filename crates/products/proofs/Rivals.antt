@@ -3,16 +3,16 @@ use Prim.Native.Nat.{ℕ, _≤_, _<_}
 use mathlib.Core.List.{List, _∷_}
 use lib.ListN.{length}
 use Rattle.words.specs.Word.{Word}
-use Rattle.products.specs.Product.{Series, Rival}
+use Rattle.products.specs.Product.{Family, Each, Series, Rival}
 
 -- each number of a series names a generator
 pub series-below : (gens : List Word) (i : ℕ) (r : List ℕ) → Series gens (i ∷ r) → i < length gens
 series-below gens i r series = series .0
 
 -- a rival for n has at most n factors
-pub rival-count : {gens : List Word} {n : ℕ} {r : List ℕ} → Rival gens n r → length r ≤ n
+pub rival-count : {family : Family} {n : ℕ} {r : List ℕ} → Rival family n r → length r ≤ n
 rival-count rival = rival .within
 
 -- each series of at most n factors is a rival for n
-pub rival-of : {gens : List Word} {n : ℕ} {r : List ℕ} → Series gens r → length r ≤ n → Rival gens n r
+pub rival-of : {family : Family} {n : ℕ} {r : List ℕ} → Each (family .Number) r → length r ≤ n → Rival family n r
 rival-of series within = record { series = series; counted = tt; within = within }

@@ -10,6 +10,7 @@ use Prim.Native.Nat.{ℕ}
 use Rattle.words.specs.Word.{Letter, R, S, Word, Equal, rr, sss, none, then}
 use Rattle.words.proofs.NormalForm.{equal-path, equal-inside, equal-behind, equal-before}
 use Rattle.products.specs.Product.{generator, Factor, Series, letters}
+use Rattle.products.proofs.Series.{each-append, spelled-append, spelled-snoc}
 pub use Rattle.products.specs.State.{State, nothing, suffix, Leads}
 
 -- the word does not begin with S
@@ -26,16 +27,10 @@ series-last (j ∷ k ∷ r) h = let (front, last, e) = series-last (k ∷ r) (λ
 
 module _ (gens : List Word) where
   pub letters-append : (a b : List ℕ) → letters gens (a ++ b) ≡ letters gens a ++ letters gens b
-  letters-append [] b = refl
-  letters-append (j ∷ a) b =
-      ap (λ (l : Word). generator gens j ++ l) (letters-append a b) ∙ sym (append-assoc (generator gens j) (letters gens a) (letters gens b))
-
-  letters-snoc : (a : List ℕ) (j : ℕ) → letters gens (a ++ j ∷ []) ≡ letters gens a ++ generator gens j
-  letters-snoc a j = letters-append a (j ∷ []) ∙ ap (λ (l : Word). letters gens a ++ l) (append-nil (generator gens j))
+  letters-append a b = spelled-append (generator gens) a b
 
   pub series-append : (a b : List ℕ) → Series gens a → Series gens b → Series gens (a ++ b)
-  series-append [] b h k = k
-  series-append (j ∷ a) b h k = (h .0, series-append a b (h .1) k)
+  series-append a b h k = each-append (Factor gens) a b h k
 
   pub series-front : (a b : List ℕ) → Series gens (a ++ b) → Series gens a
   series-front [] b h = tt
@@ -82,7 +77,7 @@ module _ (gens : List Word) where
       }
     where
       whole : u ++ letters gens r ≡ (u ++ (letters gens (e .front) ++ e .part)) ++ q
-      whole = rw (e .split, letters-snoc (e .front) (e .last), e .generates) (simp append-assoc)
+      whole = rw (e .split, spelled-snoc (generator gens) (e .front) (e .last), e .generates) (simp append-assoc)
 
   pub leads-ends-nothing : {u : Word} {r : List ℕ} → Leads gens u r [] → r ≢ [] → Ends u r []
   leads-ends-nothing {u} {r} l h =
@@ -96,7 +91,7 @@ module _ (gens : List Word) where
         series = series-front front (last ∷ []) s;
         factor = series-behind front (last ∷ []) s .0;
         generates = sym (append-nil (generator gens last));
-        cancels = rw (e, letters-snoc front last) at (l .equal);
+        cancels = rw (e, spelled-snoc (generator gens) front last) at (l .equal);
       }
 
   pub leads-append : {u v w : Word} {a b : List ℕ} → Leads gens u a v → Leads gens v b w → Leads gens u (a ++ b) w

@@ -14,7 +14,7 @@ use lib.ListN.{length, take}
 use lib.Seq.{take-length}
 use Rattle.words.specs.Word.{Word, Equal}
 use Rattle.words.proofs.Reduced.{Reduced}
-use Rattle.products.specs.Product.{measure, NoneRight, MemberRight, YesRight, NoRight}
+use Rattle.products.specs.Product.{Family, measure, NoneRight, MemberRight, YesRight, NoRight, plain}
 use Rattle.products.specs.State.{weightless}
 use Rattle.products.proofs.States.{nothing}
 use Rattle.products.proofs.OneStep.{AllReduced}
@@ -22,35 +22,36 @@ use Rattle.products.proofs.FirstLetter.{equal-reduced}
 use Rattle.products.proofs.Rows.{RowsClosed, RowsAttained}
 use Rattle.products.proofs.RowClasses.{reads-series, reads-made, row-reached, rows-least}
 use Rattle.products.proofs.Exact.{ExactBy}
+use Rattle.products.proofs.Rivals.{rival-of}
 
-module _ (gens : List Word) (target : Word) where
-  pub member-yes : (n : ℕ) (factors : List ℕ) (count : ℕ) → MemberRight gens target n factors count → YesRight gens target
+module _ (family : Family) (target : Word) where
+  pub member-yes : (n : ℕ) (factors : List ℕ) (count : ℕ) → MemberRight family target n factors count → YesRight family target
   member-yes n factors count right = (factors, right .rival .series, right .rival .counted, right .reaches)
 
-  pub no-none : NoRight gens target → (n : ℕ) → NoneRight gens target n
+  pub no-none : NoRight family target → (n : ℕ) → NoneRight family target n
   no-none right n r k e = right r (k .series) (k .counted) e
 
   -- the measure of a series that reaches the target is such a bound
-  pub yes-not-none : YesRight gens target → (n : ℕ) × (NoneRight gens target n → ⊥)
-  yes-not-none (r, s, c, e) = (measure r, λ none. none r (record { series = s; counted = c; within = le-refl (measure r) }) e)
+  pub yes-not-none : YesRight family target → (n : ℕ) × (NoneRight family target n → ⊥)
+  yes-not-none (r, s, c, e) = (measure r, λ none. none r (rival-of s (le-refl (measure r))) e)
 
-  pub yes-not-no : YesRight gens target → NoRight gens target → ⊥
+  pub yes-not-no : YesRight family target → NoRight family target → ⊥
   yes-not-no (r, s, c, e) right = right r s c e
 
-  pub verdict-yes-empty : Equal [] target → YesRight gens target
-  verdict-yes-empty e = ([], tt, tt, e)
+pub verdict-yes-empty : (gens : List Word) (target : Word) → Equal [] target → YesRight (plain gens) target
+verdict-yes-empty gens target e = ([], tt, tt, e)
 
 pub weightless-append : (a b : List ℕ) → weightless (a ++ b) ≡ weightless a + weightless b
 weightless-append a b = refl
 
 module _ (gens : List Word) (n : ℕ) (T : Word → Word → ℕ) (x : Word) (Row : ℕ → Word → ℕ) (exact : ExactBy gens weightless n T) where
-  pub verdict-yes : RowsAttained gens n T x Row → Row (length x) [] ≤ n → YesRight gens x
+  pub verdict-yes : RowsAttained gens n T x Row → Row (length x) [] ≤ n → YesRight (plain gens) x
   verdict-yes rows h =
       let (r, reads, weighs) = row-reached gens weightless weightless-append n T x Row exact rows (length x) (le-refl (length x)) [] nothing h in
       (r, reads-series gens x reads, tt, rw (append-nil (take (length x) x), take-length x) at (reads-made gens x reads))
 
   -- the empty series reaches no reduced word but the empty one; any other weighs nothing, and the entry is no more
-  pub verdict-no : AllReduced gens → RowsClosed gens n T x Row → Reduced x → x ≢ [] → 0 < Row (length x) [] → NoRight gens x
+  pub verdict-no : AllReduced gens → RowsClosed gens n T x Row → Reduced x → x ≢ [] → 0 < Row (length x) [] → NoRight (plain gens) x
   verdict-no all rows reduced some h [] s c e = absurd (some (sym (equal-reduced tt reduced e)))
   verdict-no all rows reduced some h (j ∷ r) s c e =
       let least = rows-least gens weightless weightless-append n T x Row exact all rows reduced (j ∷ r) (λ f. nil≢cons (sym f)) s e (omega arith) in

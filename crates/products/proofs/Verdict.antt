@@ -12,7 +12,7 @@ use lib.ListN.{length, take, getD}
 use lib.Seq.{take-length}
 use Rattle.words.specs.Word.{Letter, R, Word, Equal}
 use Rattle.words.proofs.Reduced.{Reduced}
-use Rattle.products.specs.Product.{Reaches, measure, Rival, NoneRight, MemberRight}
+use Rattle.products.specs.Product.{Reaches, measure, Rival, NoneRight, MemberRight, plain}
 use Rattle.products.proofs.States.{State, state-tail}
 use Rattle.products.proofs.OneStep.{AllReduced}
 use Rattle.products.proofs.FirstLetter.{equal-reduced}
@@ -84,18 +84,18 @@ module _ (gens : List Word) (n : ℕ) (T : Word → Word → ℕ) (x : Word) (Ro
 module _ (gens : List Word) (n : ℕ) (T : Word → Word → ℕ) (x : Word) (Row : ℕ → Word → ℕ)
     (all : AllReduced gens) (exact : Exact gens n T) (rows : RowsClosed gens n T x Row) (reduced : Reduced x) (some : x ≢ []) where
   -- the empty series reaches no reduced word but the empty one, so every rival that reaches x has a factor
-  rival-least : (r : List ℕ) → Rival gens n r → Reaches gens r x → Row (length x) [] ≤ measure r
+  rival-least : (r : List ℕ) → Rival (plain gens) n r → Reaches (plain gens) r x → Row (length x) [] ≤ measure r
   rival-least [] k e = absurd (some (sym (equal-reduced tt reduced e)))
   rival-least (j ∷ r) k e =
       rows-least gens measure measure-append n T x Row exact all rows reduced
       (j ∷ r) (λ f. nil≢cons (sym f)) (k .series) e (k .within)
 
-  pub verdict-none : n < Row (length x) [] → NoneRight gens x n
+  pub verdict-none : n < Row (length x) [] → NoneRight (plain gens) x n
   verdict-none h r k e = let within = k .within in omega (arith, rival-least r k e)
 
   -- the first series of the last row at nothing
   pub verdict-first : (factors : List ℕ) → RowFirst gens measure T x Row (length x) [] factors → Row (length x) [] ≤ n
-      → MemberRight gens x n factors (length factors)
+      → MemberRight (plain gens) x n factors (length factors)
   verdict-first factors f h =
       let weighs = f .weighs in
       record {
@@ -106,11 +106,11 @@ module _ (gens : List Word) (n : ℕ) (T : Word → Word → ℕ) (x : Word) (Ro
         first = λ r k e m b. no-later-not-before (no-later r k e m) b;
       }
     where
-      no-later : (r : List ℕ) → Rival gens n r → Reaches gens r x → measure r ≡ measure factors → NoLater factors r
+      no-later : (r : List ℕ) → Rival (plain gens) n r → Reaches (plain gens) r x → measure r ≡ measure factors → NoLater factors r
       no-later [] k e m = absurd (some (sym (equal-reduced tt reduced e)))
       no-later (j ∷ r) k e m = row-first-all gens measure T x Row all reduced factors f (j ∷ r) (λ g. nil≢cons (sym g)) (k .series) e m
 
-pub verdict-empty : (gens : List Word) (target : Word) → Equal [] target → (n : ℕ) → MemberRight gens target n [] 0
+pub verdict-empty : (gens : List Word) (target : Word) → Equal [] target → (n : ℕ) → MemberRight (plain gens) target n [] 0
 verdict-empty gens target e n =
     record {
       rival = rival-of tt (omega arith);

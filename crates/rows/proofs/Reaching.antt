@@ -11,7 +11,7 @@ use lib.ListN.{length, length-map}
 use Rattle.words.specs.Word.{Word, Normal}
 use Rattle.words.specs.Bytes.{letter, word}
 use Rattle.words.proofs.Reduced.{reduced-of-normal}
-use Rattle.products.specs.Product.{YesRight, NoRight}
+use Rattle.products.specs.Product.{YesRight, NoRight, plain}
 use Rattle.products.specs.State.{AllNormal, weightless, LeastBy}
 use Rattle.products.proofs.Exact.{ExactBy, all-reduced, exact-closed}
 use Rattle.products.proofs.Verdict.{Rounds, rows-closed-of, rows-attained-of}
@@ -38,12 +38,12 @@ module _ {gens words : List Word} {count : ℕ} {letters rests childrenR childre
       let root = root-number gens words count 1 letters rests childrenR childrenS wholes table tree size in
       rw (length-map target letter) (ap (at rows) (omega arith))
 
-  pub row-yes : at rows (length target * count) ≡ 0 → YesRight gens (word target)
+  pub row-yes : at rows (length target * count) ≡ 0 → YesRight (plain gens) (word target)
   row-yes none =
       verdict-yes gens 1 (tableAt words count table) (word target) (rowAt words count rows) exact
       (rows-attained-of gens 1 (tableAt words count table) (word target) (rowAt words count rows) _ rounds) (omega (arith, last-entry))
 
-  pub row-no : Normal (word target) → word target ≢ [] → (at rows (length target * count) ≡ 0 → ⊥) → NoRight gens (word target)
+  pub row-no : Normal (word target) → word target ≢ [] → (at rows (length target * count) ≡ 0 → ⊥) → NoRight (plain gens) (word target)
   row-no target-normal some not =
       verdict-no gens 1 (tableAt words count table) (word target) (rowAt words count rows) exact (all-reduced gens normal)
       (rows-closed-of gens 1 (tableAt words count table) (word target) (rowAt words count rows)

@@ -11,7 +11,7 @@ use lib.Seq.{getD-drop}
 use borrow.Author.Tests.{lt-ltb, le-ltb}
 use Rattle.words.specs.Word.{Word}
 use Rattle.words.specs.Bytes.{word}
-use Rattle.products.specs.Product.{MemberRight}
+use Rattle.products.specs.Product.{MemberRight, plain}
 use Rattle.products.specs.State.{LeastLead}
 use Rattle.trees.specs.Tree.{at, mostOfEntry, wordAt}
 use Rattle.tables.specs.Rules.{place}
@@ -90,9 +90,9 @@ module _ {count : ℕ} {letters rests childrenR childrenS wholes target : List �
         }
 
     spelled-right : {gens words : List Word} {k : ℕ} {before after : List ℕ} → Query gens words n w → k ≤ n → Spells w (whole w) 0 k before after
-        → MemberRight gens (word target) n (take k after) k
+        → MemberRight (plain gens) (word target) n (take k after) k
     spelled-right {gens} {k = k} {after = after} q within spells =
-        subst (MemberRight gens (word target) n (take k after)) (firsts-length (partsIn w) (weightIn w) (spells .firsts) ∙ spells .counts)
+        subst (MemberRight (plain gens) (word target) n (take k after)) (firsts-length (partsIn w) (weightIn w) (spells .firsts) ∙ spells .counts)
         (derived-right q (take k after) (spells .firsts) (omega (arith, spells .counts)))
 
     pub written-answered : (written : Written) {second witness : List ℕ} → lastEntry ≤ n

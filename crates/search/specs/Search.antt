@@ -7,7 +7,7 @@ use lib.ListN.{length, take, drop}
 use Rattle.limits.specs.Limits.{mostLetters, mostStates}
 use Rattle.words.specs.Word.{Word, Normal}
 use Rattle.words.specs.Bytes.{word}
-use Rattle.products.specs.Product.{NoneRight, MemberRight}
+use Rattle.products.specs.Product.{NoneRight, MemberRight, plain}
 use Rattle.products.specs.State.{AllNormal}
 use Rattle.trees.specs.Tree.{Tree}
 use Rattle.tables.specs.Filling.{Fits as TableFits}
@@ -49,8 +49,8 @@ pub record Posed (gens words : List Word) (count : ℕ) (letters rests childrenR
 -- An answer is right for the target, and leaves what stands in the witness behind the factors. Of a list that is posed no answer is Unfit.
 abbrev pub Answers : List Word → List ℕ → ℕ → List ℕ → Found → List ℕ → Type 0
 Answers gens target n before (Series count) after =
-    MemberRight gens (word target) n (take (count .0) after) (count .0) × (drop (count .0) after ≡ drop (count .0) before)
-Answers gens target n before None after = NoneRight gens (word target) n × (after ≡ before)
+    MemberRight (plain gens) (word target) n (take (count .0) after) (count .0) × (drop (count .0) after ≡ drop (count .0) before)
+Answers gens target n before None after = NoneRight (plain gens) (word target) n × (after ≡ before)
 Answers gens target n before Unfit after = ⊥
 
 -- Where the inputs fit, the answer is right for every list of which the slices are the tree, and what stands behind the entries that are used is as it

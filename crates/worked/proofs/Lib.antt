@@ -1,4 +1,5 @@
 pub mod Pairs
 pub mod Refused
+pub mod Signed
 pub mod Trying
 pub mod Values

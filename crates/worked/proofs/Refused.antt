@@ -9,15 +9,15 @@ use lib.ListN.{length}
 use Rattle.words.specs.Word.{R, S, Word, Equal, nf}
 use Rattle.words.proofs.Reduced.{Reduced}
 use Rattle.words.proofs.NormalForm.{equal-path, equal-of-nf}
-use Rattle.products.specs.Product.{Series, letters, measure, Reaches, Rival, NoneRight, MemberRight, YesRight, NoRight, smaller}
+use Rattle.products.specs.Product.{Family, Series, letters, measure, Reaches, Rival, NoneRight, MemberRight, YesRight, NoRight, smaller, plain}
 use Rattle.products.proofs.FirstLetter.{equal-reduced}
 use Rattle.products.proofs.Unbounded.{yes-not-no}
-use Rattle.worked.proofs.Trying.{misses, missesBefore, none-by-trying, first-by-trying}
-use Rattle.worked.proofs.Values.{least-above, P9, list10, list11, P11, P8-yes, P9-no, P11-yes}
+use Rattle.worked.proofs.Trying.{plain-tried, misses, missesBefore, member-by-trying}
+use Rattle.worked.proofs.Values.{P9, list10, list11, P11, P8-yes, P9-no, P11-yes}
 
 -- factors beside which a shorter rival reaches the target
-shorter-refused : {gens : List Word} {target : Word} {n count : ℕ} (factors r : List ℕ) → Rival gens n r → Reaches gens r target
-    → measure r < measure factors → MemberRight gens target n factors count → ⊥
+shorter-refused : {family : Family} {target : Word} {n count : ℕ} (factors r : List ℕ) → Rival family n r → Reaches family r target
+    → measure r < measure factors → MemberRight family target n factors count → ⊥
 shorter-refused factors r rival reaches fewer member = omega (arith, member .least r rival reaches)
 
 -- ---- a generator dropped that the others make: SRSR is SR twice
@@ -29,45 +29,41 @@ abbrev pub both : List Word
 both = (S ∷ R ∷ []) ∷ (S ∷ R ∷ S ∷ R ∷ []) ∷ []
 
 -- without it two factors are the least ..
-pub dropped-right : MemberRight once (S ∷ R ∷ S ∷ R ∷ []) 2 (0 ∷ 0 ∷ []) 2
+pub dropped-right : MemberRight (plain once) (S ∷ R ∷ S ∷ R ∷ []) 2 (0 ∷ 0 ∷ []) 2
 unfolding nf misses missesBefore
 dropped-right =
-    record {
-      rival = record { series = (omega arith, (omega arith, tt)); counted = tt; within = omega arith };
-      reaches = equal-of-nf (letters once (0 ∷ 0 ∷ [])) (S ∷ R ∷ S ∷ R ∷ []) refl;
-      counts = refl;
-      least = least-above once (S ∷ R ∷ S ∷ R ∷ []) 1 (0 ∷ 0 ∷ []) refl (none-by-trying once (S ∷ R ∷ S ∷ R ∷ []) 1 refl) 2;
-      first = first-by-trying once (S ∷ R ∷ S ∷ R ∷ []) 2 (0 ∷ 0 ∷ []) refl;
-    }
+    member-by-trying (plain-tried once) (S ∷ R ∷ S ∷ R ∷ []) 2 0 (0 ∷ [])
+    (record { series = (omega arith, (omega arith, tt)); counted = tt; within = omega arith })
+    (equal-of-nf (letters once (0 ∷ 0 ∷ [])) (S ∷ R ∷ S ∷ R ∷ []) refl) refl refl
 
 -- .. with it they are one too many ..
-by-the-dropped : Reaches both (1 ∷ []) (S ∷ R ∷ S ∷ R ∷ [])
+by-the-dropped : Reaches (plain both) (1 ∷ []) (S ∷ R ∷ S ∷ R ∷ [])
 unfolding nf
 by-the-dropped = equal-of-nf (letters both (1 ∷ [])) (S ∷ R ∷ S ∷ R ∷ []) refl
 
-pub dropped-refused : MemberRight both (S ∷ R ∷ S ∷ R ∷ []) 2 (0 ∷ 0 ∷ []) 2 → ⊥
+pub dropped-refused : MemberRight (plain both) (S ∷ R ∷ S ∷ R ∷ []) 2 (0 ∷ 0 ∷ []) 2 → ⊥
 dropped-refused =
     shorter-refused (0 ∷ 0 ∷ []) (1 ∷ []) (record { series = (omega arith, tt); counted = tt; within = omega arith }) by-the-dropped (omega arith)
 
 -- .. and a bound of 1 does not make it none
-pub dropped-none-refused : NoneRight both (S ∷ R ∷ S ∷ R ∷ []) 1 → ⊥
+pub dropped-none-refused : NoneRight (plain both) (S ∷ R ∷ S ∷ R ∷ []) 1 → ⊥
 dropped-none-refused nobody = nobody (1 ∷ []) (record { series = (omega arith, tt); counted = tt; within = omega arith }) by-the-dropped
 
 -- ---- counts
 
 -- a least count that is one above the bound
-pub above-the-bound-refused : MemberRight list10 (R ∷ []) 2 (0 ∷ 1 ∷ 1 ∷ []) 3 → ⊥
+pub above-the-bound-refused : MemberRight (plain list10) (R ∷ []) 2 (0 ∷ 1 ∷ 1 ∷ []) 3 → ⊥
 above-the-bound-refused member = omega (arith, member .rival .within)
 
 -- a count that is not that of the factors
-pub another-count-refused : MemberRight list10 (R ∷ []) 4 (0 ∷ 1 ∷ 1 ∷ []) 4 → ⊥
+pub another-count-refused : MemberRight (plain list10) (R ∷ []) 4 (0 ∷ 1 ∷ 1 ∷ []) 4 → ⊥
 another-count-refused member = omega (arith, member .counts)
 
 -- a count that an empty generator makes one too many
 abbrev pub repeated : List Word
 repeated = [] ∷ (R ∷ []) ∷ (R ∷ []) ∷ []
 
-pub empty-generator-refused : MemberRight repeated (R ∷ []) 5 (0 ∷ 1 ∷ []) 2 → ⊥
+pub empty-generator-refused : MemberRight (plain repeated) (R ∷ []) 5 (0 ∷ 1 ∷ []) 2 → ⊥
 unfolding nf
 empty-generator-refused =
     shorter-refused (0 ∷ 1 ∷ []) (2 ∷ []) (record { series = (omega arith, tt); counted = tt; within = omega arith })
@@ -76,7 +72,7 @@ empty-generator-refused =
 -- ---- other series of the least count
 
 -- the second of two equal generators, though the first reaches the target as well
-pub second-of-equals-refused : MemberRight repeated (R ∷ []) 5 (2 ∷ []) 1 → ⊥
+pub second-of-equals-refused : MemberRight (plain repeated) (R ∷ []) 5 (2 ∷ []) 1 → ⊥
 unfolding nf
 second-of-equals-refused member =
     member .first (1 ∷ []) (record { series = (omega arith, tt); counted = tt; within = omega arith }) (equal-of-nf (letters repeated (1 ∷ [])) (R ∷ []) refl)
@@ -85,26 +81,26 @@ second-of-equals-refused member =
 -- ---- verdicts
 
 -- none, though three S's from three factors cancel
-pub overlooked-refused : NoneRight list11 (R ∷ []) 3 → ⊥
+pub overlooked-refused : NoneRight (plain list11) (R ∷ []) 3 → ⊥
 overlooked-refused nobody = nobody (0 ∷ 1 ∷ 2 ∷ []) (P11 .rival) (P11 .reaches)
 
 -- a member of an empty list, whatever its factors and its count
-pub always-member-refused : (factors : List ℕ) (count : ℕ) → MemberRight [] (R ∷ []) 1000 factors count → ⊥
+pub always-member-refused : (factors : List ℕ) (count : ℕ) → MemberRight (plain []) (R ∷ []) 1000 factors count → ⊥
 always-member-refused factors count member = P9 factors (member .rival) (member .reaches)
 
 -- ---- verdicts without a bound
 
 -- no, though three S's from three factors cancel
-pub overlooked-no-refused : NoRight list11 (R ∷ []) → ⊥
-overlooked-no-refused = yes-not-no list11 (R ∷ []) P11-yes
+pub overlooked-no-refused : NoRight (plain list11) (R ∷ []) → ⊥
+overlooked-no-refused = yes-not-no (plain list11) (R ∷ []) P11-yes
 
 -- no for an empty list and an empty target
-pub empty-no-refused : NoRight [] [] → ⊥
-empty-no-refused = yes-not-no [] [] P8-yes
+pub empty-no-refused : NoRight (plain []) [] → ⊥
+empty-no-refused = yes-not-no (plain []) [] P8-yes
 
 -- yes for an empty list, whatever series it is said for
-pub always-yes-refused : YesRight [] (R ∷ []) → ⊥
-always-yes-refused yes-right = yes-not-no [] (R ∷ []) yes-right P9-no
+pub always-yes-refused : YesRight (plain []) (R ∷ []) → ⊥
+always-yes-refused yes-right = yes-not-no (plain []) (R ∷ []) yes-right P9-no
 
 -- no where only series of at most n factors were tried, whatever n is: T to the power n + 1 is no product of at most n times T, and is one of n + 1 times
 abbrev pub powers : ℕ → Word
@@ -125,7 +121,7 @@ powers-letters [] series = refl
 powers-letters (zero ∷ r) series = ap (λ (w : Word). S ∷ R ∷ w) (powers-letters r (series .1))
 powers-letters (suc i ∷ r) series = absurd (not-suc-le-zero (le-of-suc-le-suc (series .0)))
 
-powers-none : (n : ℕ) → NoneRight once (powers (suc n)) n
+powers-none : (n : ℕ) → NoneRight (plain once) (powers (suc n)) n
 powers-none n r rival reaches =
     let same : powers (length r) ≡ powers (suc n) = equal-reduced (powers-reduced (length r)) (powers-reduced (suc n)) (subst (λ (w : Word). Equal w (powers (suc n))) (powers-letters r (rival .series)) reaches) in
     omega (arith, ap length same, powers-length (length r), powers-length (suc n), rival .within)
@@ -142,6 +138,6 @@ times-letters : (k : ℕ) → letters once (times k) ≡ powers k
 times-letters zero = refl
 times-letters (suc k) = ap (λ (w : Word). S ∷ R ∷ w) (times-letters k)
 
-pub stopped-no-refused : (n : ℕ) → NoneRight once (powers (suc n)) n × (NoRight once (powers (suc n)) → ⊥)
+pub stopped-no-refused : (n : ℕ) → NoneRight (plain once) (powers (suc n)) n × (NoRight (plain once) (powers (suc n)) → ⊥)
 stopped-no-refused n =
-    (powers-none n, yes-not-no once (powers (suc n)) (times (suc n), times-series (suc n), tt, equal-path (times-letters (suc n))))
+    (powers-none n, yes-not-no (plain once) (powers (suc n)) (times (suc n), times-series (suc n), tt, equal-path (times-letters (suc n))))

@@ -1,19 +1,25 @@
 -- By trying every series, for a small bound: antt computes the test, and one law turns it into the statement.
---     none-by-trying     a right `none`
---     first-by-trying    no rival that reaches the target stands before these factors
+--     plain-tried, signed-tried    the numbers of a list, and those with its inverses, can all be tried
+--     none-by-trying               a right `none`
+--     member-by-trying             a right member
+--     unequal-by-trying            two words that are not equal
 -- Assumes nothing.
 use mathlib.Core.Bool.{Bool, true, false, not}
 use mathlib.Core.Path.{_≡_, refl, sym, ap, _∙_}
 use mathlib.Core.List.{List, [], _∷_, _++_, append-assoc, append-nil}
-use Prim.Native.Nat.{ℕ, zero, suc, _≤_, _<_}
+use Prim.Native.Nat.{ℕ, zero, suc, _+_, _≤_, _<_}
 use native.Mathlib.Nat.{le-of-suc-le-suc, not-suc-le-zero}
-use native.Mathlib.Decide.{decLt}
+use native.Mathlib.Decide.{decLe, decLt}
 use native.Mathlib.Omega.{arith}
-use lib.ListN.{length, getD}
-use Rattle.words.specs.Word.{R, S, Word, nf}
+use borrow.Author.Tests.{lt-ltb}
+use lib.Dec.{ltb}
+use lib.ListN.{length}
+use Rattle.words.specs.Word.{R, S, Word, Equal, nf}
 use Rattle.refusals.specs.Telling.{pick}
 use Rattle.words.proofs.NormalForm.{nf-of-equal}
-use Rattle.products.specs.Product.{Series, letters, measure, Reaches, Rival, NoneRight, Before, smaller, further}
+use Rattle.products.specs.Product.{Family, Each, spelled, plain, signed, inverseMark, measure, Reaches, Rival, NoneRight, MemberRight, Before, smaller, further}
+use Rattle.products.proofs.Rivals.{rival-of}
+use Rattle.products.proofs.Doubled.{Twin, given, inverted, twin-of-number}
 
 -- two words are the same, letter by letter
 abbrev pub same : Word → Word → Bool
@@ -41,19 +47,39 @@ both-right : (a b : Bool) → both a b ≡ true → b ≡ true
 both-right true b e = e
 both-right false b e = absurd (let z : _≡_ {A = ℕ} 0 1 = cc in omega arith)
 
-abbrev every : (Word → Bool) → List Word → Bool
-every test [] = true
-every test (w ∷ ws) = both (test w) (every test ws)
+abbrev everyBelow : ℕ → (ℕ → Bool) → Bool
+everyBelow zero test = true
+everyBelow (suc j) test = both (test j) (everyBelow j test)
 
-every-at : (test : Word → Bool) (ws : List Word) (i : ℕ) → i < length ws → every test ws ≡ true → test (getD ws i []) ≡ true
-every-at test [] i h e = absurd (not-suc-le-zero h)
-every-at test (w ∷ ws) zero h e = both-left (test w) (every test ws) e
-every-at test (w ∷ ws) (suc i) h e = every-at test ws i (le-of-suc-le-suc h) (both-right (test w) (every test ws) e)
+pub below-at : (j : ℕ) (test : ℕ → Bool) (i : ℕ) → i < j → everyBelow j test ≡ true → test i ≡ true
+below-at zero test i h e = absurd (not-suc-le-zero h)
+below-at (suc j) test i h e =
+    elim (decLt i j) [
+      | yes l ↦ below-at j test i l (both-right (test j) (everyBelow j test) e)
+      | no l ↦ let last : j ≡ i = omega arith in rw last at (both-left (test j) (everyBelow j test) e)
+    ]
 
--- no series of at most n generators, put behind the word p, makes a word with that normal form
-unfoldable pub misses : List Word → Word → ℕ → Word → Bool
-misses gens form zero p = not (same (nf p) form)
-misses gens form (suc n) p = both (not (same (nf p) form)) (every (λ (g : Word). misses gens form n (p ++ g)) gens)
+-- A family whose numbers can all be tried: a test of every one, and that it tests each.
+pub record Tried (family : Family) : Type 0 where
+  pub every : (ℕ → Bool) → Bool
+  pub at : (test : ℕ → Bool) (k : ℕ) → family .Number k → every test ≡ true → test k ≡ true
+
+abbrev pub plain-tried : (gens : List Word) → Tried (plain gens)
+plain-tried gens = record { every = everyBelow (length gens); at = below-at (length gens) }
+
+abbrev everySigned : ℕ → (ℕ → Bool) → Bool
+everySigned count test = both (everyBelow count test) (everyBelow count (λ j. test (inverseMark + j)))
+
+pub signed-at : (count : ℕ) (test : ℕ → Bool) {i k : ℕ} → Twin count i k → everySigned count test ≡ true → test k ≡ true
+signed-at count test {i} (given h e) every =
+    rw e (below-at count test i h (both-left (everyBelow count test) (everyBelow count (λ j. test (inverseMark + j))) every))
+signed-at count test (inverted j h d e) every =
+    let behind : ℕ → Bool = λ l. test (inverseMark + l) in
+    rw e (below-at count behind j h (both-right (everyBelow count test) (everyBelow count behind) every))
+
+abbrev pub signed-tried : (gens : List Word) → Tried (signed gens)
+signed-tried gens =
+    record { every = everySigned (length gens); at = λ test k f every. signed-at (length gens) test (twin-of-number gens k f) every }
 
 missed-here : (p form : Word) → not (same (nf p) form) ≡ true → nf p ≡ form → ⊥
 missed-here p form e h =
@@ -62,53 +88,65 @@ missed-here p form e h =
     let zero-one : _≡_ {A = ℕ} 0 1 = cc in
     omega arith
 
-missed : (gens : List Word) (form : Word) (n : ℕ) (p : Word) (r : List ℕ) → length r ≤ n → Series gens r → misses gens form n p ≡ true → nf (p ++ letters gens r) ≡ form → ⊥
-unfolding misses
-missed gens form zero p [] l s e h = missed-here p form e (ap nf (sym (append-nil p)) ∙ h)
-missed gens form zero p (i ∷ r) l s e h = not-suc-le-zero l
-missed gens form (suc n) p [] l s e h =
-    missed-here p form (both-left (not (same (nf p) form)) (every (λ (g : Word). misses gens form n (p ++ g)) gens) e) (ap nf (sym (append-nil p)) ∙ h)
-missed gens form (suc n) p (i ∷ r) l s e h =
-    missed gens form n (p ++ getD gens i []) r (le-of-suc-le-suc l) (s .1)
-    (every-at (λ (g : Word). misses gens form n (p ++ g)) gens i (s .0) (both-right (not (same (nf p) form)) (every (λ (g : Word). misses gens form n (p ++ g)) gens) e))
-    (ap nf (append-assoc p (getD gens i []) (letters gens r)) ∙ h)
+pub unequal-by-trying : (u v : Word) → not (same (nf u) (nf v)) ≡ true → Equal u v → ⊥
+unequal-by-trying u v e equal = missed-here u (nf v) e (nf-of-equal equal)
 
-pub none-by-trying : (gens : List Word) (target : Word) (n : ℕ) → misses gens (nf target) n [] ≡ true → NoneRight gens target n
-none-by-trying gens target n e r rival reaches = missed gens (nf target) n [] r (rival .within) (rival .series) e (nf-of-equal reaches)
-
-abbrev everyBelow : ℕ → (ℕ → Bool) → Bool
-everyBelow zero test = true
-everyBelow (suc j) test = both (test j) (everyBelow j test)
-
-below-at : (j : ℕ) (test : ℕ → Bool) (i : ℕ) → i < j → everyBelow j test ≡ true → test i ≡ true
-below-at zero test i h e = absurd (not-suc-le-zero h)
-below-at (suc j) test i h e =
-    elim (decLt i j) [
-      | yes l ↦ below-at j test i l (both-right (test j) (everyBelow j test) e)
-      | no l ↦ let last : j ≡ i = omega arith in rw last at (both-left (test j) (everyBelow j test) e)
-    ]
+-- no series of at most n factors, put behind the word p, makes a word with that normal form
+unfoldable pub misses : {family : Family} → Tried family → Word → ℕ → Word → Bool
+misses {family} tried form zero p = not (same (nf p) form)
+misses {family} tried form (suc n) p = both (not (same (nf p) form)) (tried .every (λ k. misses tried form n (p ++ family .wordOf k)))
 
 -- no series that stands before these factors, put behind the word p, makes a word with that normal form
-unfoldable pub missesBefore : List Word → Word → List ℕ → Word → Bool
-missesBefore gens form [] p = true
-missesBefore gens form (j ∷ f) p =
-    both (everyBelow j (λ (i : ℕ). misses gens form (length f) (p ++ getD gens i []))) (missesBefore gens form f (p ++ getD gens j []))
+unfoldable pub missesBefore : {family : Family} → Tried family → Word → List ℕ → Word → Bool
+missesBefore {family} tried form [] p = true
+missesBefore {family} tried form (j ∷ f) p =
+    both (tried .every (λ k. pick (ltb k j) (misses tried form (length f) (p ++ family .wordOf k)) true)) (missesBefore tried form f (p ++ family .wordOf j))
 
-missed-before : (gens : List Word) (form : Word) (p : Word) {r f : List ℕ} → Before r f → length r ≤ length f → Series gens r → missesBefore gens form f p ≡ true
-    → nf (p ++ letters gens r) ≡ form → ⊥
-unfolding missesBefore
-missed-before gens form p (smaller {i} {j} {r} {s} h) l t e m =
-    let test : ℕ → Bool = λ k. misses gens form (length s) (p ++ getD gens k []) in
-    missed gens form (length s) (p ++ getD gens i []) r (le-of-suc-le-suc l) (t .1)
-    (below-at j test i h (both-left (everyBelow j test) (missesBefore gens form s (p ++ getD gens j [])) e))
-    (ap nf (append-assoc p (getD gens i []) (letters gens r)) ∙ m)
-missed-before gens form p (further {i} {r} {s} b) l t e m =
-    let test : ℕ → Bool = λ k. misses gens form (length s) (p ++ getD gens k []) in
-    missed-before gens form (p ++ getD gens i []) b (le-of-suc-le-suc l) (t .1)
-    (both-right (everyBelow i test) (missesBefore gens form s (p ++ getD gens i [])) e)
-    (ap nf (append-assoc p (getD gens i []) (letters gens r)) ∙ m)
+module _ {family : Family} (tried : Tried family) where
+  missed : (form : Word) (n : ℕ) (p : Word) (r : List ℕ) → length r ≤ n → Each (family .Number) r → misses tried form n p ≡ true
+      → nf (p ++ spelled (family .wordOf) r) ≡ form → ⊥
+  unfolding misses
+  missed form zero p [] l s e h = missed-here p form e (ap nf (sym (append-nil p)) ∙ h)
+  missed form zero p (k ∷ r) l s e h = not-suc-le-zero l
+  missed form (suc n) p [] l s e h =
+      missed-here p form (both-left (not (same (nf p) form)) (tried .every (λ k. misses tried form n (p ++ family .wordOf k))) e)
+      (ap nf (sym (append-nil p)) ∙ h)
+  missed form (suc n) p (k ∷ r) l s e h =
+      let test : ℕ → Bool = λ i. misses tried form n (p ++ family .wordOf i) in
+      missed form n (p ++ family .wordOf k) r (le-of-suc-le-suc l) (s .1)
+      (tried .at test k (s .0) (both-right (not (same (nf p) form)) (tried .every test) e))
+      (ap nf (append-assoc p (family .wordOf k) (spelled (family .wordOf) r)) ∙ h)
 
-pub first-by-trying : (gens : List Word) (target : Word) (n : ℕ) (factors : List ℕ) → missesBefore gens (nf target) factors [] ≡ true
-    → (r : List ℕ) → Rival gens n r → Reaches gens r target → measure r ≡ measure factors → Before r factors → ⊥
-first-by-trying gens target n factors e r rival reaches m b =
-    missed-before gens (nf target) [] b (omega arith) (rival .series) e (nf-of-equal reaches)
+  pub none-by-trying : (target : Word) (n : ℕ) → misses tried (nf target) n [] ≡ true → NoneRight family target n
+  none-by-trying target n e r rival reaches = missed (nf target) n [] r (rival .within) (rival .series) e (nf-of-equal reaches)
+
+  missed-before : (form : Word) (p : Word) {r f : List ℕ} → Before r f → length r ≤ length f → Each (family .Number) r
+      → missesBefore tried form f p ≡ true → nf (p ++ spelled (family .wordOf) r) ≡ form → ⊥
+  unfolding missesBefore
+  missed-before form p (smaller {i} {j} {r} {s} h) l t e m =
+      let test : ℕ → Bool = λ k. pick (ltb k j) (misses tried form (length s) (p ++ family .wordOf k)) true in
+      missed form (length s) (p ++ family .wordOf i) r (le-of-suc-le-suc l) (t .1)
+      (rw (lt-ltb i j h) at (tried .at test i (t .0) (both-left (tried .every test) (missesBefore tried form s (p ++ family .wordOf j)) e)))
+      (ap nf (append-assoc p (family .wordOf i) (spelled (family .wordOf) r)) ∙ m)
+  missed-before form p (further {i} {r} {s} b) l t e m =
+      let test : ℕ → Bool = λ k. pick (ltb k i) (misses tried form (length s) (p ++ family .wordOf k)) true in
+      missed-before form (p ++ family .wordOf i) b (le-of-suc-le-suc l) (t .1)
+      (both-right (tried .every test) (missesBefore tried form s (p ++ family .wordOf i)) e)
+      (ap nf (append-assoc p (family .wordOf i) (spelled (family .wordOf) r)) ∙ m)
+
+  -- factors that reach the target, where no series that is shorter and none that stands before them does
+  pub member-by-trying : (target : Word) (n : ℕ) (j : ℕ) (f : List ℕ) → Rival family n (j ∷ f) → Reaches family (j ∷ f) target
+      → misses tried (nf target) (length f) [] ≡ true → missesBefore tried (nf target) (j ∷ f) [] ≡ true
+      → MemberRight family target n (j ∷ f) (length (j ∷ f))
+  member-by-trying target n j f rival reaches shorter before =
+      record {
+        rival = rival;
+        reaches = reaches;
+        counts = refl;
+        least = λ r k e.
+            elim (decLe (measure (j ∷ f)) (measure r)) [
+              | yes h ↦ h
+              | no h ↦ absurd (none-by-trying target (length f) shorter r (rival-of (k .series) (omega arith)) e)
+            ];
+        first = λ r k e m b. missed-before (nf target) [] b (omega arith) (k .series) before (nf-of-equal e);
+      }

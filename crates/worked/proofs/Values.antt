@@ -2,19 +2,17 @@
 use mathlib.Core.Logic.{inr}
 use mathlib.Core.Path.{_≡_, refl}
 use mathlib.Core.List.{List, [], _∷_}
-use Prim.Native.Nat.{ℕ, suc, _≤_, zero-le}
-use native.Mathlib.Nat.{lt-of-not-le, not-suc-le-zero}
-use native.Mathlib.Decide.{decLe}
+use Prim.Native.Nat.{zero-le}
+use native.Mathlib.Nat.{not-suc-le-zero}
 use native.Mathlib.Omega.{arith}
 use lib.IntN.{pos, negsuc}
-use lib.ListN.{length}
 use Rattle.words.specs.Word.{R, S, Word, sss, none, nf, inverse}
 use Rattle.words.proofs.NormalForm.{nf-normal, equal-of-nf}
 use Rattle.unimodular.specs.Matrix.{signed, matrixOf, NormalFormOf}
-use Rattle.products.specs.Product.{letters, Reaches, Rival, NoneRight, MemberRight, YesRight, NoRight}
+use Rattle.products.specs.Product.{letters, Reaches, NoneRight, MemberRight, YesRight, NoRight, plain}
 use Rattle.products.proofs.Order.{before-nothing}
 use Rattle.products.proofs.Unbounded.{member-yes}
-use Rattle.worked.proofs.Trying.{misses, missesBefore, none-by-trying, first-by-trying}
+use Rattle.worked.proofs.Trying.{plain-tried, misses, missesBefore, none-by-trying, member-by-trying}
 
 -- P1: "RR and SSS give the empty word."
 pub P1 : (nf (R ∷ R ∷ []) ≡ []) × (nf (S ∷ S ∷ S ∷ []) ≡ [])
@@ -49,16 +47,8 @@ pub P7 : NormalFormOf (record { a = pos 1; b = pos 0; c = pos 1; d = pos 1 }) (S
 unfolding nf
 P7 = record { normal = nf-normal (S ∷ S ∷ R ∷ []); matrix = inr refl }
 
--- a member with one factor more than a bound for which none is right has the least count
-pub least-above : (gens : List Word) (target : Word) (k : ℕ) (factors : List ℕ) → length factors ≡ suc k → NoneRight gens target k → (n : ℕ) (r : List ℕ) → Rival gens n r → Reaches gens r target → length factors ≤ length r
-least-above gens target k factors e nobody n r rival reaches =
-    elim (decLe (length factors) (length r)) [
-      | yes h ↦ h
-      | no h ↦ absurd (nobody r (record { series = rival .series; counted = rival .counted; within = omega (arith, lt-of-not-le h) }) reaches)
-    ]
-
 -- P8: "empty list, empty target, n 0: member 0."
-pub P8 : MemberRight [] [] 0 [] 0
+pub P8 : MemberRight (plain []) [] 0 [] 0
 P8 =
     record {
       rival = record { series = tt; counted = tt; within = zero-le };
@@ -69,54 +59,46 @@ P8 =
     }
 
 -- P9: "empty list, target R, n 1000: none."
-pub P9 : NoneRight [] (R ∷ []) 1000
+pub P9 : NoneRight (plain []) (R ∷ []) 1000
 unfolding nf misses
-P9 = none-by-trying [] (R ∷ []) 1000 refl
+P9 = none-by-trying (plain-tried []) (R ∷ []) 1000 refl
 
 -- P10: "generators RS, S; target R; n 3: member 3, by 0 1 1; with n 2, none."
 abbrev pub list10 : List Word
 list10 = (R ∷ S ∷ []) ∷ (S ∷ []) ∷ []
 
-pub P10-none : NoneRight list10 (R ∷ []) 2
+pub P10-none : NoneRight (plain list10) (R ∷ []) 2
 unfolding nf misses
-P10-none = none-by-trying list10 (R ∷ []) 2 refl
+P10-none = none-by-trying (plain-tried list10) (R ∷ []) 2 refl
 
-pub P10 : MemberRight list10 (R ∷ []) 3 (0 ∷ 1 ∷ 1 ∷ []) 3
+pub P10 : MemberRight (plain list10) (R ∷ []) 3 (0 ∷ 1 ∷ 1 ∷ []) 3
 unfolding nf misses missesBefore
 P10 =
-    record {
-      rival = record { series = (omega arith, (omega arith, (omega arith, tt))); counted = tt; within = omega arith };
-      reaches = equal-of-nf (letters list10 (0 ∷ 1 ∷ 1 ∷ [])) (R ∷ []) refl;
-      counts = refl;
-      least = least-above list10 (R ∷ []) 2 (0 ∷ 1 ∷ 1 ∷ []) refl P10-none 3;
-      first = first-by-trying list10 (R ∷ []) 3 (0 ∷ 1 ∷ 1 ∷ []) refl;
-    }
+    member-by-trying (plain-tried list10) (R ∷ []) 3 0 (1 ∷ 1 ∷ [])
+    (record { series = (omega arith, (omega arith, (omega arith, tt))); counted = tt; within = omega arith })
+    (equal-of-nf (letters list10 (0 ∷ 1 ∷ 1 ∷ [])) (R ∷ []) refl) refl refl
 
 -- P11: "generators RSRS, S, SRSS; target R; n 3: member with count 3, reached by 0 1 2; with n 2, none." The three S's that cancel come
 -- from three factors.
 abbrev pub list11 : List Word
 list11 = (R ∷ S ∷ R ∷ S ∷ []) ∷ (S ∷ []) ∷ (S ∷ R ∷ S ∷ S ∷ []) ∷ []
 
-pub P11-none : NoneRight list11 (R ∷ []) 2
+pub P11-none : NoneRight (plain list11) (R ∷ []) 2
 unfolding nf misses
-P11-none = none-by-trying list11 (R ∷ []) 2 refl
+P11-none = none-by-trying (plain-tried list11) (R ∷ []) 2 refl
 
-pub P11 : MemberRight list11 (R ∷ []) 3 (0 ∷ 1 ∷ 2 ∷ []) 3
+pub P11 : MemberRight (plain list11) (R ∷ []) 3 (0 ∷ 1 ∷ 2 ∷ []) 3
 unfolding nf misses missesBefore
 P11 =
-    record {
-      rival = record { series = (omega arith, (omega arith, (omega arith, tt))); counted = tt; within = omega arith };
-      reaches = equal-of-nf (letters list11 (0 ∷ 1 ∷ 2 ∷ [])) (R ∷ []) refl;
-      counts = refl;
-      least = least-above list11 (R ∷ []) 2 (0 ∷ 1 ∷ 2 ∷ []) refl P11-none 3;
-      first = first-by-trying list11 (R ∷ []) 3 (0 ∷ 1 ∷ 2 ∷ []) refl;
-    }
+    member-by-trying (plain-tried list11) (R ∷ []) 3 0 (1 ∷ 2 ∷ [])
+    (record { series = (omega arith, (omega arith, (omega arith, tt))); counted = tt; within = omega arith })
+    (equal-of-nf (letters list11 (0 ∷ 1 ∷ 2 ∷ [])) (R ∷ []) refl) refl refl
 
 -- P12: "generator SSS, empty target, n 5: member 0, not 1."
 abbrev pub list12 : List Word
 list12 = (S ∷ S ∷ S ∷ []) ∷ []
 
-pub P12 : MemberRight list12 [] 5 [] 0
+pub P12 : MemberRight (plain list12) [] 5 [] 0
 P12 =
     record {
       rival = record { series = tt; counted = tt; within = zero-le };
@@ -127,23 +109,23 @@ P12 =
     }
 
 -- .. though one factor reaches the empty target too
-pub P12-not-1 : Reaches list12 (0 ∷ []) [] × (MemberRight list12 [] 5 (0 ∷ []) 1 → ⊥)
+pub P12-not-1 : Reaches (plain list12) (0 ∷ []) [] × (MemberRight (plain list12) [] 5 (0 ∷ []) 1 → ⊥)
 P12-not-1 =
     (sss [] [], λ m. let below = m .least [] (record { series = tt; counted = tt; within = zero-le }) none in omega arith)
 
 -- The same lists and targets without a bound. Of an empty list no series but the empty one is a product.
-pub P8-yes : YesRight [] []
-P8-yes = member-yes [] [] 0 [] 0 P8
+pub P8-yes : YesRight (plain []) []
+P8-yes = member-yes (plain []) [] 0 [] 0 P8
 
-pub P9-no : NoRight [] (R ∷ [])
+pub P9-no : NoRight (plain []) (R ∷ [])
 P9-no [] series counted reaches = P9 [] (record { series = tt; counted = tt; within = zero-le }) reaches
 P9-no (i ∷ r) series counted reaches = absurd (not-suc-le-zero (series .0))
 
-pub P10-yes : YesRight list10 (R ∷ [])
-P10-yes = member-yes list10 (R ∷ []) 3 (0 ∷ 1 ∷ 1 ∷ []) 3 P10
+pub P10-yes : YesRight (plain list10) (R ∷ [])
+P10-yes = member-yes (plain list10) (R ∷ []) 3 (0 ∷ 1 ∷ 1 ∷ []) 3 P10
 
-pub P11-yes : YesRight list11 (R ∷ [])
-P11-yes = member-yes list11 (R ∷ []) 3 (0 ∷ 1 ∷ 2 ∷ []) 3 P11
+pub P11-yes : YesRight (plain list11) (R ∷ [])
+P11-yes = member-yes (plain list11) (R ∷ []) 3 (0 ∷ 1 ∷ 2 ∷ []) 3 P11
 
-pub P12-yes : YesRight list12 []
-P12-yes = member-yes list12 [] 5 [] 0 P12
+pub P12-yes : YesRight (plain list12) []
+P12-yes = member-yes (plain list12) [] 5 [] 0 P12
