@@ -7,7 +7,7 @@ mod normality;
 pub use refusals::Asked;
 pub use refusals::Refusal;
 ghost use mathlib.Core.Path.{_≡_};
-ghost use Prim.Native.Nat.{_≤_};
+ghost use Prim.Native.Nat.{_*_, _≤_};
 ghost use lib.ListN.{length, take};
 ghost use Rattle.limits.specs.Limits.{mostLetters, mostOfInverse};
 ghost use Rattle.words.specs.Word.{nf, inverse};
@@ -46,8 +46,9 @@ fn write_out(stack: &[u8], len: usize, out: &mut [u8]) -> Written
     Written::Length(Letters(len as u16))
 }
 
-// The letters that a short stack holds. Most words are short, and a long stack's zeros cost more than their reduction.
-const FEW: usize = 128;
+// The letters that a short stack holds: as many as the inverse of a generator that question 11 lets pass may arrive with. Most words are short, and a long
+// stack's zeros cost more than their reduction or inversion.
+const FEW: usize = 2 * (limits::GENERATOR_LETTERS as usize);
 
 // Writes the normal form of `word` to the front of `out`, by a stack that is lent for its letters.
 fn reduce_on(stack: &mut [u8], word: &[u8], out: &mut [u8]) -> Written
@@ -58,6 +59,18 @@ fn reduce_on(stack: &mut [u8], word: &[u8], out: &mut [u8]) -> Written
     ensures { λ _. ⌜ now (out .exit) ≡ overwritten (bytes (nf (wordOf (now (word .entry))))) (now (out .entry)) ⌝ }
 {
     let top = arrival::arrive_all(stack, word);
+    write_out(stack, top.len, out)
+}
+
+// Writes the normal form of the inverse of `word` to the front of `out`, by a stack that is lent for its letters.
+fn invert_on(stack: &mut [u8], word: &[u8], out: &mut [u8]) -> Written
+    requires { ⌜ 2 * length (now word) ≤ length (now stack) ⌝ }
+    requires { ⌜ 2 * length (now word) ≤ length (now out) ⌝ }
+    requires { ⌜ length (now word) ≤ mostLetters ⌝ }
+    ensures { λ r. ⌜ r ≡ Written.Length (record { 0 = length (nf (inverse (wordOf (now (word .entry))))) }) ⌝ }
+    ensures { λ _. ⌜ now (out .exit) ≡ overwritten (bytes (nf (inverse (wordOf (now (word .entry)))))) (now (out .entry)) ⌝ }
+{
+    let top = arrival::arrive_inverse(stack, word);
     write_out(stack, top.len, out)
 }
 
@@ -85,9 +98,12 @@ pub fn invert(word: &[u8], out: &mut [u8]) -> Written
     match refusals::of_word(word, 2 * word.len(), out.len()) {
         Asked::Refused(refusal) => Written::Refused(refusal),
         Asked::Passed => {
+            if 2 * word.len() <= FEW {
+                let mut stack = [0u8; FEW];
+                return invert_on(&mut stack, word, out);
+            }
             let mut stack = [0u8; limits::INVERSE_ROOM];
-            let top = arrival::arrive_inverse(&mut stack, word);
-            write_out(&stack, top.len, out)
+            invert_on(&mut stack, word, out)
         }
     }
 }
