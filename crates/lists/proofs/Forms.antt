@@ -5,7 +5,7 @@ use Prim.Native.Nat.{ℕ, _+_, _≤_, _<_}
 use native.Mathlib.Numerals.{add-one}
 use native.Mathlib.Omega.{arith}
 use lib.ListN.{length, take, drop, getD, set}
-use lib.Seq.{paste, length-take-le, take-all, take-at, take-suc, take-paste, drop-cons}
+use lib.Seq.{paste, length-take-le, take-all, take-at, take-suc, take-paste, take-append-seam, drop-append-seam, drop-cons}
 use Rattle.words.specs.Word.{Word, nf}
 use Rattle.words.specs.Bytes.{bytes}
 use Rattle.slices.specs.Slices.{overwritten}
@@ -13,24 +13,8 @@ use Rattle.words.proofs.Answering.{take-overwritten}
 use Rattle.words.proofs.Bytes.{length-bytes}
 use Rattle.slices.proofs.Slices.{front-stored}
 use Rattle.lists.specs.NormalList.{total, normalBytes, normalEnds}
-use Rattle.lists.proofs.NormalList.{normal-ends-length}
-
--- ---- one generator more
-
-total-more : (gens : List Word) (g : Word) → total (gens ++ g ∷ []) ≡ total gens + length (nf g)
-total-more [] g = omega arith
-total-more (h ∷ gens) g = omega (arith, total-more gens g)
-
-normal-bytes-more : (gens : List Word) (g : Word) → normalBytes (gens ++ g ∷ []) ≡ normalBytes gens ++ bytes (nf g)
-normal-bytes-more [] g = append-nil (bytes (nf g))
-normal-bytes-more (h ∷ gens) g =
-    ap (λ (l : List ℕ). bytes (nf h) ++ l) (normal-bytes-more gens g) ∙ sym (append-assoc (bytes (nf h)) (normalBytes gens) (bytes (nf g)))
-
-normal-ends-more : (from : ℕ) (gens : List Word) (g : Word) → normalEnds from (gens ++ g ∷ []) ≡ normalEnds from gens ++ (from + total gens + length (nf g)) ∷ []
-normal-ends-more from [] g = ap (λ (k : ℕ). k ∷ []) (omega arith)
-normal-ends-more from (h ∷ gens) g =
-    ap (λ (l : List ℕ). (from + length (nf h)) ∷ l) (normal-ends-more (from + length (nf h)) gens g
-    ∙ ap (λ (k : ℕ). normalEnds (from + length (nf h)) gens ++ k ∷ []) (omega arith))
+use Rattle.lists.specs.Reducing.{InFront}
+use Rattle.lists.proofs.NormalList.{normal-ends-length, total-append, normal-bytes-append, normal-ends-append}
 
 -- ---- the normal forms of the first i generators are written, those of `rest` are still to come
 
@@ -42,6 +26,18 @@ pub record Forming (gens : List Word) (oldEnds : List ℕ) (rest : List Word) (s
 
 pub forming-begins : (gens : List Word) (out ends : List ℕ) → Forming gens ends gens 0 0 out ends
 forming-begins gens out ends = record { behind = refl; sums = refl; letters = refl; ends-is = refl }
+
+-- the forms of `done` are written, those of the words behind them are not
+pub forming-behind : (done rest : List Word) (oldEnds : List ℕ) {sum : ℕ} {out outEnds : List ℕ} → sum ≡ total done → take sum out ≡ normalBytes done
+    → outEnds ≡ overwritten (normalEnds 0 done) oldEnds → Forming (done ++ rest) oldEnds rest sum (length done) out outEnds
+forming-behind done rest oldEnds sums letters ends =
+    let front = sym (take-append-seam done rest) in
+    record {
+      behind = drop-append-seam done rest;
+      sums = sums ∙ ap total front;
+      letters = letters ∙ ap normalBytes front;
+      ends-is = ends ∙ ap (λ (l : List Word). overwritten (normalEnds 0 l) oldEnds) front;
+    }
 
 -- what is copied behind the letters leaves them as they are
 pub letters-kept : (out new : List ℕ) (sum n : ℕ) {out′ : List ℕ} → out′ ≡ paste out sum new n → sum ≤ length out → take sum out′ ≡ take sum out
@@ -66,15 +62,15 @@ module _ (gens : List Word) (oldEnds : List ℕ) (all : List Word) (sum i : ℕ)
       let end : 0 + total done + length (nf g) ≡ sum + len = omega (arith, f .sums) in
       record {
         behind = ap (drop 1) split;
-        sums = omega (arith, f .sums, ap total front, total-more done g);
+        sums = omega (arith, f .sums, ap total front, total-append done (g ∷ []));
         letters =
             ap (take (sum + len)) writes ∙ take-paste out sum (bytes (nf g)) len room (omega (arith, spelled))
             ∙ ap₂ (λ (x y : List ℕ). x ++ y) (f .letters) (take-all len (bytes (nf g)) (omega (arith, spelled)))
-            ∙ sym (ap normalBytes front ∙ normal-bytes-more done g);
+            ∙ sym (ap normalBytes front ∙ normal-bytes-append done (g ∷ []) ∙ ap (λ (l : List ℕ). normalBytes done ++ l) (append-nil (bytes (nf g))));
         ends-is =
             ap (λ (o : List ℕ). set o i (sum + len)) (f .ends-is) ∙ front-stored (normalEnds 0 done) oldEnds i ends-length (sum + len) room-ends
             ∙ ap (λ (k : ℕ). overwritten (normalEnds 0 done ++ k ∷ []) oldEnds) (sym end)
-            ∙ ap (λ (e : List ℕ). overwritten e oldEnds) (sym (ap (normalEnds 0) front ∙ normal-ends-more 0 done g));
+            ∙ ap (λ (e : List ℕ). overwritten e oldEnds) (sym (ap (normalEnds 0) front ∙ normal-ends-append 0 done (g ∷ [])));
       }
 
 -- the ends of all the generators stand at the front
@@ -82,3 +78,13 @@ pub all-ends : (old : List ℕ) {slice : List ℕ} (some all : List Word) (n : �
     → n ≡ length (normalEnds 0 all) → take n slice ≡ normalEnds 0 all
 all-ends old some all n e whole l =
     ap (take n) (e ∙ ap (λ (gens : List Word). overwritten (normalEnds 0 gens) old) whole) ∙ take-overwritten (normalEnds 0 all) old n l
+
+-- and so do their forms
+pub forming-all : (gens : List Word) (oldEnds : List ℕ) {rest : List Word} (sum i : ℕ) {out outEnds : List ℕ} → Forming gens oldEnds rest sum i out outEnds → length gens ≤ i → InFront gens sum out outEnds
+forming-all gens oldEnds sum i f h =
+    let all = take-all i gens h in
+    record {
+      sums = f .sums ∙ ap total all;
+      letters = f .letters ∙ ap normalBytes all;
+      ends = all-ends oldEnds (take i gens) gens (length gens) (f .ends-is) all (sym (normal-ends-length 0 gens));
+    }

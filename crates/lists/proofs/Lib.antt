@@ -6,5 +6,8 @@ mod NormalForms
 mod Behind
 mod Forms
 mod Answering
+mod InverseForms
 pub mod NormalList
+pub mod ShortForms
 pub mod ReducedList
+pub mod SignedList

@@ -1,20 +1,21 @@
-// Lists of generators: the questions about a list's slices, and the list with its generators reduced. Every call takes any slices
-// whatever.
+// Lists of generators: the questions about a list's slices, and the list with its generators reduced, with their inverses behind them where that is asked for.
+// Every call takes any slices whatever.
 mod ends;
+mod inverting;
 mod reducing;
 
 use limits::GENERATORS;
 use limits::LIST_ROOM;
 use limits::WORD_LETTERS;
-use slices::copying::copy_at;
 use slices::widening::wide;
 use words::Asked;
+use words::Letters;
 use words::Refusal;
 use words::Written;
 ghost use mathlib.Core.Path.{_≡_};
 ghost use Rattle.lists.specs.Questions.{ofList};
 ghost use Rattle.lists.specs.Reducing.{Checked};
-ghost use Rattle.lists.specs.Calls.{ReducesList};
+ghost use Rattle.lists.specs.Calls.{ReducesList, ReducesSigned};
 
 // Questions 7, 8, 9 and 10 of a list and a target.
 pub fn of_list(bytes: &[u8], ends: &[u16], target: &[u8]) -> Asked
@@ -63,13 +64,31 @@ fn reduce_checked(bytes: &[u8], ends: &[u16], out: &mut [u8], out_ends: &mut [u1
     }
     let sum = reduced.sum;
     let len = wide(sum.0);
-    if out.len() < len {
-        return Written::Refused(Refusal::OutputTooShort);
+    match reducing::hand_over(&forms[..len], &form_ends[..ends.len()], out, out_ends) {
+        Asked::Refused(refusal) => Written::Refused(refusal),
+        Asked::Passed => Written::Length(sum),
     }
-    if out_ends.len() < ends.len() {
-        return Written::Refused(Refusal::OutputTooShort);
+}
+
+// The letters of the given generators' normal forms together, and of these and the inverses'; or the refusal.
+pub enum Signed {
+    Lengths(Letters, Letters),
+    Refused(Refusal),
+}
+
+// Writes the normal forms of the list's generators, and behind them those of their inverses, to the front of `out`, and their ends to the front of `out_ends`.
+pub fn reduce_signed(bytes: &[u8], ends: &[u16], out: &mut [u8], out_ends: &mut [u16]) -> Signed
+    ensures { λ r. ⌜ ReducesSigned (now (bytes .entry)) (now (ends .entry)) (now (out .entry)) (now («out_ends» .entry)) r (now (out .exit)) (now («out_ends» .exit)) ⌝ }
+{
+    let mut letters = [0u8; LIST_ROOM];
+    let mut list_ends = [0u16; GENERATORS];
+    match reduce_list(bytes, ends, &mut letters, &mut list_ends) {
+        Written::Refused(refusal) => Signed::Refused(refusal),
+        Written::Length(given) => inverting::hand_over_signed(
+            &letters[..given.0 as usize],
+            &list_ends[..ends.len()],
+            out,
+            out_ends,
+        ),
     }
-    copy_at(&forms[..len], out, 0);
-    reducing::copy_ends(&form_ends, ends.len(), out_ends);
-    Written::Length(sum)
 }

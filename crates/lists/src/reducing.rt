@@ -1,8 +1,11 @@
 // The generators of a list, reduced one after the other. A list is here one that has passed questions 7 to 10.
 use limits::GENERATOR_LETTERS;
 use limits::LIST_LETTERS;
+use slices::copying::copy_at;
 use slices::widening::wide;
+use words::Asked;
 use words::Letters;
+use words::Refusal;
 use words::Written;
 ghost use mathlib.Core.Path.{_≡_};
 ghost use Prim.Native.Nat.{_+_, _≤_, _<_};
@@ -15,7 +18,8 @@ ghost use Rattle.slices.specs.Slices.{overwritten};
 ghost use Rattle.products.specs.Product.{generators};
 ghost use Rattle.lists.specs.Questions.{firstLong};
 ghost use Rattle.lists.specs.NormalList.{total, normalBytes, normalEnds};
-ghost use Rattle.lists.specs.Reducing.{Checked, AllLetters};
+ghost use Rattle.lists.specs.Calls.{HandsOver};
+ghost use Rattle.lists.specs.Reducing.{Checked, AllLetters, ofRoom};
 
 // Writes the normal form of the generator that runs from one end up to another to `out` from the place `at` on.
 fn normal_form(bytes: &[u8], from: usize, end: usize, out: &mut [u8], at: usize) -> Letters
@@ -75,15 +79,30 @@ pub(crate) fn write_forms(
     Reduced { count: i, sum }
 }
 
-// Writes the first `count` ends to the front of `to`.
-pub(crate) fn copy_ends(ends: &[u16], count: usize, to: &mut [u16])
-    requires { ⌜ count ≤ length (now ends) ⌝ }
-    requires { ⌜ count ≤ length (now to) ⌝ }
-    ensures { λ _. ⌜ now (to .exit) ≡ overwritten (take count (now (ends .entry))) (now (to .entry)) ⌝ }
+// Writes all of `ends` to the front of `to`.
+pub(crate) fn copy_ends(ends: &[u16], to: &mut [u16])
+    requires { ⌜ length (now ends) ≤ length (now to) ⌝ }
+    ensures { λ _. ⌜ now (to .exit) ≡ overwritten (now (ends .entry)) (now (to .entry)) ⌝ }
 {
     let mut i = 0;
-    while i < count {
+    while i < ends.len() {
         to[i] = ends[i];
         i += 1;
     }
+}
+
+// Writes a list's letters and ends to the fronts of lent slices, where there is room for both; else changes nothing. The answer says which.
+pub(crate) fn hand_over(letters: &[u8], ends: &[u16], out: &mut [u8], out_ends: &mut [u16]) -> Asked
+    ensures { λ r. ⌜ HandsOver (ofRoom (now (letters .entry)) (now (ends .entry)) (now (out .entry)) (now («out_ends» .entry))) (λ asked. asked) (now (letters .entry)) (now (ends .entry))
+        (now (out .entry)) (now («out_ends» .entry)) r (now (out .exit)) (now («out_ends» .exit)) ⌝ }
+{
+    if out.len() < letters.len() {
+        return Asked::Refused(Refusal::OutputTooShort);
+    }
+    if out_ends.len() < ends.len() {
+        return Asked::Refused(Refusal::OutputTooShort);
+    }
+    copy_at(letters, out, 0);
+    copy_ends(ends, out_ends);
+    Asked::Passed
 }

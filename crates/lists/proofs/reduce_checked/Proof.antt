@@ -1,23 +1,23 @@
 -- Each answer by the tests on the way; where all are passed the forms are handed over. Assumes nothing.
-use mathlib.Core.Path.{_≡_, sym, ap, subst, _∙_}
+use mathlib.Core.Path.{_≡_, refl, sym, ap, _∙_}
 use mathlib.Core.List.{List, []}
 use Prim.Native.Nat.{ℕ, _≤_}
 use lib.ListN.{length, take}
 use lib.Seq.{length-take-le}
 use Rattle.words.specs.Word.{Word}
-use Rattle.slices.specs.Slices.{overwritten}
+use Rattle.words.specs.Calls.{lengthOr}
 use Rattle.refusals.specs.declared.Refusal.the-variants.{GeneratorTooLong}
-use Rattle.words.specs.declared.Written.the-variants.{Refused as Written·Refused}
-use Rattle.slices.proofs.Slices.{pasted-front}
+use Rattle.refusals.specs.declared.Asked.{Asked}
+use Rattle.words.specs.declared.Written.the-variants.{Length, Refused as Written·Refused}
 use Rattle.products.specs.Product.{generators}
 use Rattle.products.proofs.Generators.{generators-length}
-use Rattle.lists.specs.Questions.{firstLong}
-use Rattle.lists.specs.NormalList.{total, normalBytes}
-use Rattle.lists.specs.Calls.{ReducesList}
-use Rattle.lists.proofs.Answering.{too-long, no-room, no-room-for-ends, reduces-list}
+use Rattle.lists.specs.NormalList.{total, normalBytes, normalEnds}
+use Rattle.lists.specs.Reducing.{ofRoom}
+use Rattle.lists.specs.Calls.{ofReducedList}
+use Rattle.lists.proofs.Answering.{too-long, none-too-long, asked-refused, asked-room, hands, handed}
 use Rattle.lists.proofs.Behind.{all-pass}
 use Rattle.lists.proofs.Forms.{all-ends}
-use Rattle.lists.proofs.NormalList.{normal-bytes-length, normal-ends-length}
+use Rattle.lists.proofs.NormalList.{normal-ends-length}
 use Rattle.lists.proofs.Passing.{list-passed}
 use native.Mathlib.Omega.{arith}
 use borrow.Author.Needs.{needs}
@@ -38,25 +38,37 @@ ends c = start c .args .ends .now
 abbrev gens : tie.After-write-forms → List Word
 gens c = generators (bytes c) (ends c)
 
--- no generator is too long
-abbrev formed : tie.Else1 → tie.After-write-forms
-formed c = c .before .before .before .before
+few : (c : tie.After-write-forms) → length (ends c) ≤ length (c .write-forms .last .1 .1 .1 .0)
+few c = omega (arith, c .write-forms .kept .1 .1 .1 .0, list-passed (bytes c) (ends c) [] (start c .pre) .few)
 
-short : (c : tie.Else1) → length (ends (formed c)) ≤ firstLong 0 (gens (formed c))
-short c = rw (formed c .write-forms .ensures .0) at (c .if1 .left)
+-- no generator is too long, and `wide` tells the sum
+abbrev formed : tie.After-wide → tie.After-write-forms
+formed c = c .before .before .before .before .before .before
 
-whole : (c : tie.Else1) → take (formed c .write-forms .result .count) (gens (formed c)) ≡ gens (formed c)
-whole c = all-pass (bytes (formed c)) (ends (formed c)) _ (c .if1 .left)
+whole : (c : tie.After-wide) → take (formed c .write-forms .result .count) (gens (formed c)) ≡ gens (formed c)
+whole c = all-pass (bytes (formed c)) (ends (formed c)) _ (c .before .before .if1 .left)
 
-sums : (c : tie.Else1) → formed c .write-forms .result .sum .0 ≡ total (gens (formed c))
+sums : (c : tie.After-wide) → formed c .write-forms .result .sum .0 ≡ total (gens (formed c))
 sums c = formed c .write-forms .ensures .1 .0 .1 ∙ ap total (whole c)
 
--- and there is room for the forms, and for their ends
-abbrev passed : tie.Else3 → tie.Else1
-passed c = c .before .before .before .before
+forms : (c : tie.After-wide) → take (c .wide .result) (formed c .write-forms .last .1 .1 .0) ≡ normalBytes (gens (formed c))
+forms c =
+    let w = formed c .write-forms in
+    ap (λ (k : ℕ). take k (w .last .1 .1 .0)) (c .wide .ensures) ∙ w .ensures .1 .1 .0 ∙ ap normalBytes (whole c)
 
-fits : (c : tie.Else2) → total (gens (formed (c .before .before .before))) ≤ length (start (formed (c .before .before .before)) .args .out .now)
-fits c = omega (arith, sums (c .before .before .before), c .before .wide .ensures, c .if2 .left)
+form-ends : (c : tie.After-wide) → take (length (ends (formed c))) (formed c .write-forms .last .1 .1 .1 .0) ≡ normalEnds 0 (gens (formed c))
+form-ends c =
+    let f = formed c in
+    all-ends _ (take (f .write-forms .result .count) (gens f)) (gens f) (length (ends f)) (f .write-forms .ensures .1 .1 .1) (whole c)
+    (sym (normal-ends-length 0 (gens f) ∙ generators-length (bytes f) 0 (ends f)))
+
+-- room is the only question left
+questions : (c : tie.After-wide) → let f = formed c in let a = start f .args in
+    ofReducedList (gens f) (bytes f) (ends f) (length (a .out .now)) (length (a .out-ends .now)) ≡ ofRoom (normalBytes (gens f)) (normalEnds 0 (gens f)) (a .out .now) (a .out-ends .now)
+questions c =
+    let f = formed c in
+    asked-room (gens f) (bytes f) (ends f) (start f .args .out .now) (start f .args .out-ends .now)
+    (none-too-long (bytes f) (ends f) (start f .pre) (rw (f .write-forms .ensures .0) at (c .before .before .if1 .left)))
 
 -- ---- the needs
 
@@ -68,55 +80,46 @@ slice-aggregate-write-forms-2 c = search needs
 
 write-forms-requires : tie.Need-write-forms-requires
 write-forms-requires c κs =
-    let a = c .before .before .before .before .before .before .args in
-    let checked = c .before .before .before .before .before .before .pre in
-    (checked, (omega arith, omega (arith, list-passed (a .bytes .now) (a .ends .now) [] checked .few)))
+    let s = c .before .before .before .before .before .before in
+    (s .pre, (omega arith, omega (arith, list-passed (s .args .bytes .now) (s .args .ends .now) [] (s .pre) .few)))
 
 returns : tie.Need-returns
 returns c =
     let f = c .before .before .before .before in
     let a = start f .args in
-    let m = f .write-forms .ensures in
-    subst (λ (k : ℕ). ReducesList (bytes f) (ends f) (a .out .now) (a .out-ends .now) (Written·Refused (GeneratorTooLong k)) (a .out .now) (a .out-ends .now)) (sym (m .0))
-    (too-long (bytes f) (ends f) (a .out .now) (a .out-ends .now) (start f .pre) (omega (arith, m .0, c .if1 .taken)))
+    let count = f .write-forms .ensures .0 in
+    hands (λ (q : Asked). lengthOr q (total (gens f))) (normalBytes (gens f)) (normalEnds 0 (gens f)) (a .out .now) (a .out-ends .now) _
+    (asked-refused (gens f) (bytes f) (ends f) (a .out .now) (a .out-ends .now) (too-long (bytes f) (ends f) (start f .pre) (omega (arith, count, c .if1 .taken))))
+    (ap (λ (k : ℕ). Written·Refused (GeneratorTooLong k)) count) refl refl
 
 wide-requires : tie.Need-wide-requires
 wide-requires c κs = search needs
 
-returns-2 : tie.Need-returns-2
-returns-2 c =
-    let e = c .before .before .before in
-    let f = formed e in
-    let a = start f .args in
-    no-room (bytes f) (ends f) (a .out .now) (a .out-ends .now) (start f .pre) (short e) (omega (arith, sums e, c .before .wide .ensures, c .if2 .taken))
-
-returns-3 : tie.Need-returns-3
-returns-3 c =
-    let e = c .before .before .before .before in
-    let f = formed e in
-    let a = start f .args in
-    no-room-for-ends (bytes f) (ends f) (a .out .now) (a .out-ends .now) (start f .pre) (short e) (fits (c .before)) (c .if3 .taken)
-
 array-share-prefix-forms : tie.Need-array-share-prefix-forms
 array-share-prefix-forms c = search needs
 
-slice-aggregate-copy-at : tie.Need-slice-aggregate-copy-at
-slice-aggregate-copy-at c =
-    let w = formed (passed (c .before)) .write-forms in
-    let len = c .before .before .before .wide in
+slice-aggregate-hand-over : tie.Need-slice-aggregate-hand-over
+slice-aggregate-hand-over c =
+    let w = formed (c .before) .write-forms in
+    let len = c .before .wide in
     sym (length-take-le (len .result) (w .last .1 .1 .0) (omega (arith, w .ensures .1 .0 .0, w .kept .1 .1 .0, len .ensures)))
 
-copy-at-requires : tie.Need-copy-at-requires
-copy-at-requires c κs = search needs
+array-share-prefix-form-ends : tie.Need-array-share-prefix-form-ends
+array-share-prefix-form-ends c = few (formed (c .before))
 
-slice-aggregate-copy-ends : tie.Need-slice-aggregate-copy-ends
-slice-aggregate-copy-ends c = search needs
+slice-aggregate-hand-over-2 : tie.Need-slice-aggregate-hand-over-2
+slice-aggregate-hand-over-2 c =
+    let f = formed (c .before .before) in
+    sym (length-take-le (length (ends f)) (f .write-forms .last .1 .1 .1 .0) (few f))
 
-copy-ends-requires : tie.Need-copy-ends-requires
-copy-ends-requires c κs =
-    let r = c .before .before .before .before .before .before .before in
-    let f = formed (passed r) in
-    (omega (arith, f .write-forms .kept .1 .1 .1 .0, list-passed (bytes f) (ends f) [] (start f .pre) .few), r .if3 .left)
+hand-over-requires : tie.Need-hand-over-requires
+hand-over-requires c κs = search needs
+
+enum-known-refusal : tie.Need-enum-known-refusal
+enum-known-refusal c = search needs
+
+enum-told : tie.Need-enum-told
+enum-told c = search needs
 
 same-length : tie.Need-same-length
 same-length c = search needs
@@ -124,22 +127,28 @@ same-length c = search needs
 same-length-2 : tie.Need-same-length-2
 same-length-2 c = search needs
 
-returns-4 : tie.Need-returns-4
-returns-4 c =
-    let r = c .before .before .before .before .before .before .before .before .before .before in
-    let e = passed r in
-    let f = formed e in
+returns-2 : tie.Need-returns-2
+returns-2 c =
+    let t = c .before .before .before .before .before .before .before .before .before .before .before .before in
+    let f = formed t in
     let a = start f .args in
-    let w = f .write-forms in
-    let m = w .ensures in
-    let sum : r .before .before .wide .result ≡ total (gens f) = r .before .before .wide .ensures ∙ sums e in
-    let forms : take (r .before .before .wide .result) (w .last .1 .1 .0) ≡ normalBytes (gens f) =
-    ap (λ (k : ℕ). take k (w .last .1 .1 .0)) (r .before .before .wide .ensures) ∙ m .1 .1 .0 ∙ ap normalBytes (whole e) in
-    let form-ends = all-ends _ (take (w .result .count) (gens f)) (gens f) (length (ends f)) (m .1 .1 .1) (whole e) (sym (normal-ends-length 0 (gens f) ∙ generators-length (bytes f) 0 (ends f))) in
-    reduces-list (bytes f) (ends f) (a .out .now) (a .out-ends .now) (start f .pre) (short e) (fits (r .before)) (r .if3 .left) _ _ (w .result .sum .0) (sums e)
-    (pasted-front (c .before .before .before .before .before .before .before .copy-at .ensures) (omega (arith, fits (r .before), ap length forms, sum, normal-bytes-length (gens f)))
-    ∙ ap (λ (new : List ℕ). overwritten new (a .out .now)) forms)
-    ((c .before .before .copy-ends .ensures) ∙ ap (λ (new : List ℕ). overwritten new (a .out-ends .now)) form-ends)
+    handed (λ (q : Asked). lengthOr q (total (gens f))) (normalBytes (gens f)) (normalEnds 0 (gens f)) (a .out .now) (a .out-ends .now) (c .before .before .before .before .before .before .before .hand-over .ensures) (forms t)
+    (form-ends t) (questions t) (c .before .refusal .given .1) refl
+
+same-length-3 : tie.Need-same-length-3
+same-length-3 c = search needs
+
+same-length-4 : tie.Need-same-length-4
+same-length-4 c = search needs
+
+returns-3 : tie.Need-returns-3
+returns-3 c =
+    let t = c .before .before .before .before .before .before .before .before .before .before .before in
+    let f = formed t in
+    let a = start f .args in
+    handed (λ (q : Asked). lengthOr q (total (gens f))) (normalBytes (gens f)) (normalEnds 0 (gens f)) (a .out .now) (a .out-ends .now)
+    (c .before .before .before .before .before .before .hand-over .ensures) (forms t) (form-ends t) (questions t) (c .enum-told .given .1)
+    (ap (λ (k : ℕ). Length (record { 0 = k })) (sums t))
 
 pub reduce-checked-spec : {M : Type 1} → statement M
 reduce-checked-spec =
@@ -150,13 +159,16 @@ reduce-checked-spec =
     write-forms-requires
     returns
     wide-requires
-    returns-2
-    returns-3
     array-share-prefix-forms
-    slice-aggregate-copy-at
-    copy-at-requires
-    slice-aggregate-copy-ends
-    copy-ends-requires
+    slice-aggregate-hand-over
+    array-share-prefix-form-ends
+    slice-aggregate-hand-over-2
+    hand-over-requires
+    enum-known-refusal
+    enum-told
     same-length
     same-length-2
-    returns-4)
+    returns-2
+    same-length-3
+    same-length-4
+    returns-3)

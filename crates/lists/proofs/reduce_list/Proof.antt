@@ -1,6 +1,10 @@
 -- The questions of the list come first. Assumes nothing.
-use mathlib.Core.Path.{sym, _∙_}
-use Rattle.lists.proofs.Answering.{list-refused}
+use mathlib.Core.Path.{refl, sym, _∙_}
+use Rattle.words.specs.Calls.{lengthOr}
+use Rattle.refusals.specs.declared.Asked.{Asked}
+use Rattle.products.specs.Product.{generators}
+use Rattle.lists.specs.NormalList.{total, normalBytes, normalEnds}
+use Rattle.lists.proofs.Answering.{alone-refused, asked-refused, hands}
 use borrow.Author.Needs.{needs}
 use Rattle.lists.proofs.reduce_list.Statement.{statement}
 use Rattle.lists.proofs.reduce_list.Tie as tie
@@ -23,7 +27,10 @@ reduce-checked-requires c κs = sym (c .before .before .before .before .of-list 
 returns : tie.Need-returns
 returns c =
     let a = c .before .before .before .before .before .before .before .before .before .args in
-    list-refused (a .bytes .now) (a .ends .now) (a .out .now) (a .out-ends .now) (sym (c .before .before .before .of-list .ensures) ∙ c .before .refusal .given .1)
+    let gens = generators (a .bytes .now) (a .ends .now) in
+    hands (λ (q : Asked). lengthOr q (total gens)) (normalBytes gens) (normalEnds 0 gens) (a .out .now) (a .out-ends .now) _
+    (asked-refused gens (a .bytes .now) (a .ends .now) (a .out .now) (a .out-ends .now)
+    (alone-refused (a .bytes .now) (a .ends .now) (sym (c .before .before .before .of-list .ensures) ∙ c .before .refusal .given .1))) refl refl refl
 
 same-length : tie.Need-same-length
 same-length c = search needs

@@ -4,7 +4,7 @@ use mathlib.Core.List.{List}
 use Prim.Native.Nat.{ℕ, _-_, _≤_}
 use native.Mathlib.Numerals.{add-one}
 use lib.ListN.{length, take, set, getD, length-set}
-use lib.Seq.{length-take-le, take-suc}
+use lib.Seq.{length-take-le, take-all, take-suc}
 use Rattle.slices.specs.Slices.{overwritten}
 use Rattle.slices.proofs.Slices.{front-stored}
 use borrow.Author.Needs.{needs}
@@ -13,10 +13,10 @@ use Rattle.lists.proofs.reducing.copy_ends.Statement.{statement}
 use Rattle.lists.proofs.reducing.copy_ends.Tie as tie
 
 abbrev Inv-loop : tie.InvT-loop
-Inv-loop ends count to₀ i₀ to i = (i ≤ count) × (to ≡ overwritten (take i ends) to₀) × (length to ≡ length to₀)
+Inv-loop ends to₀ i₀ to i = (i ≤ length ends) × (to ≡ overwritten (take i ends) to₀) × (length to ≡ length to₀)
 
 abbrev μ-loop : tie.MeasureT-loop
-μ-loop ends count to₀ i₀ to i = count - i
+μ-loop ends to₀ i₀ to i = length ends - i
 
 loop-holds : tie.Need-loop-holds Inv-loop μ-loop
 loop-holds c = (omega arith, refl, refl)
@@ -58,8 +58,7 @@ returns : tie.Need-returns Inv-loop μ-loop
 returns c =
     let l = c .before .loop in
     let a = c .before .before .args in
-    let all : l .i ≡ a .count = omega arith in
-    l .inv .1 ∙ ap (λ (k : ℕ). overwritten (take k (a .ends .now)) (a .to .now)) all
+    l .inv .1 ∙ ap (λ (all : List ℕ). overwritten all (a .to .now)) (take-all (l .i) (a .ends .now) (omega arith))
 
 pub copy-ends-spec : {M : Type 1} → statement M
 copy-ends-spec =
