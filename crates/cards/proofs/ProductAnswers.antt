@@ -17,7 +17,7 @@ use Rattle.refusals.specs.declared.Asked.the-variants.{Passed, Refused}
 use Rattle.refusals.proofs.Asking.{no-first, refused-first}
 use Rattle.words.proofs.Bytes.{word-bytes, length-bytes, first-other-bytes}
 use Rattle.words.proofs.NormalForm.{nf-of-normal}
-use Rattle.products.specs.Product.{generators}
+use Rattle.products.specs.Product.{generators, plain}
 use Rattle.lists.specs.Questions.{ofList, question11}
 use Rattle.lists.specs.NormalList.{total}
 use Rattle.lists.specs.Reducing.{AllLetters}
@@ -55,7 +55,7 @@ module _ (n : ℕ) (list : List (List ℕ)) where
   refused letters target lent {refusal} e = (
     Verdict·Refused refusal,
     refl,
-    subst (λ (a : Asked). Judged a (q target) gens target n (Verdict·Refused refusal) lent lent) (sym e) (refl, refl),
+    subst (λ (a : Asked). Judged a (q target) (plain gens) target n (Verdict·Refused refusal) lent lent) (sym e) (refl, refl),
   )
 
   pub list-refused : (letters : List ℕ) (target : Word) (lent : Lent) {refusal : Refusal} → ofList (listBytes list) (listEnds 0 list) letters ≡ Refused refusal
@@ -75,8 +75,8 @@ module _ (n : ℕ) (list : List (List ℕ)) where
         ap (λ (a : Asked). firstNo (ofList (listBytes list) (listEnds 0 list) [] ∷ question11 gens ∷ a ∷ []))
         (twelfth w (omega (arith, long, ap length (nf-of-normal w normal))) before) in
         let refuses = alike listed (never-passed (ofList (listBytes list) (listEnds 0 list) []) (question11 gens) NormalFormTooLong)
-        (subst (λ (a : Asked). Judged a (q (word letters)) gens (word letters) n v before after) its judged) in
-        (v, e, subst (λ (a : Asked). Judged a (q w) gens w n v before after) (sym same) refuses)
+        (subst (λ (a : Asked). Judged a (q (word letters)) (plain gens) (word letters) n v before after) its judged) in
+        (v, e, subst (λ (a : Asked). Judged a (q w) (plain gens) w n v before after) (sym same) refuses)
       where
         listed : Asked
         listed = firstNo (ofList (listBytes list) (listEnds 0 list) [] ∷ question11 gens ∷ Refused NormalFormTooLong ∷ [])
@@ -88,7 +88,7 @@ module _ (n : ℕ) (list : List (List ℕ)) where
             (lt-leb (length (nf target)) mostOfForm h)
 
         -- a refusal does not speak of the target
-        alike : (a : Asked) → (a ≡ Passed → ⊥) → Judged a (q (word letters)) gens (word letters) n v before after → Judged a (q w) gens w n v before after
+        alike : (a : Asked) → (a ≡ Passed → ⊥) → Judged a (q (word letters)) (plain gens) (word letters) n v before after → Judged a (q w) (plain gens) w n v before after
         alike Passed h j = absurd (h refl)
         alike (Refused refusal) h j = j
 
@@ -99,4 +99,4 @@ module _ (n : ℕ) (list : List (List ℕ)) where
         let (v, e, judged) = subst (λ (x : Word). AnswersProduct n (bytes w) x list r before after) (word-bytes w) answers in
         let pass = list-before-letters (listBytes list) (listEnds 0 list) (bytes w) (omega (arith, short, length-bytes w)) (omega (arith, first-other-bytes w)) in
         let same : asked (bytes w) w before ≡ asked [] w before = ap (λ (a : Asked). firstNo (a ∷ question11 gens ∷ sizes w before ∷ [])) pass in
-        (v, e, subst (λ (a : Asked). Judged a (q w) gens w n v before after) same judged)
+        (v, e, subst (λ (a : Asked). Judged a (q w) (plain gens) w n v before after) same judged)

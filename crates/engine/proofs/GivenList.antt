@@ -10,7 +10,7 @@ use Rattle.refusals.specs.declared.Refusal.{Refusal}
 use Rattle.refusals.specs.declared.Asked.{Asked}
 use Rattle.refusals.specs.declared.Asked.the-variants.{Passed, Refused}
 use Rattle.refusals.proofs.Asking.{first-no-passed, first-no-refused, first-no-one}
-use Rattle.products.specs.Product.{generators}
+use Rattle.products.specs.Product.{generators, plain}
 use Rattle.products.proofs.Reducing.{none-reduced, member-reduced}
 use Rattle.lists.specs.Questions.{ofList, question11}
 use Rattle.lists.specs.NormalList.{total}
@@ -26,13 +26,13 @@ use Rattle.engine.proofs.Verdicts.{judged-refused}
 
 module _ (gens : List Word) (target : Word) (n : ℕ) where
   -- reducing the generators and the target first changes no verdict
-  given-right : (r : Verdict) (before after : List ℕ) → VerdictRight (map nf gens) (nf target) n r before after → VerdictRight gens target n r before after
+  pub given-right : (r : Verdict) (before after : List ℕ) → VerdictRight (plain (map nf gens)) (nf target) n r before after → VerdictRight (plain gens) target n r before after
   given-right (Member count) before after (right, rest) = (member-reduced gens target n (take (count .0) after) (count .0) .0 right, rest)
   given-right None before after (right, same) = (none-reduced gens target n .0 right, same)
   given-right (Verdict·Refused refusal) before after right = right
 
-  given-judged : (asked : Asked) (q : ℕ) (r : Verdict) (before after : Lent) → Judged asked q (map nf gens) (nf target) n r before after
-      → Judged asked q gens target n r before after
+  given-judged : (asked : Asked) (q : ℕ) (r : Verdict) (before after : Lent) → Judged asked q (plain (map nf gens)) (nf target) n r before after
+      → Judged asked q (plain gens) target n r before after
   given-judged (Refused refusal) q r before after judged = judged
   given-judged Passed q r before after (right, first, second) = (given-right r (before .witness) (after .witness) right, first, second)
 
@@ -53,11 +53,11 @@ module _ (bytes ends target : List ℕ) (n : ℕ) where
   q = side (total gens) (length (nf (word target)))
 
   pub judges-refused : {refusal : Refusal} (lent : Lent) → ofQuery bytes ends target ≡ Refused refusal → Judges bytes ends target n (Verdict·Refused refusal) lent lent
-  judges-refused lent e = judged-refused (asked lent) q gens (word target) n lent (first-no-refused first-questions (sizes lent ∷ []) e)
+  judges-refused lent e = judged-refused q (plain gens) (word target) n (asked lent) lent (first-no-refused first-questions (sizes lent ∷ []) e)
 
   pub judges-ready : {m t : Letters} {count : ℕ} {posed : Posed·Lent} (r : Verdict) (before after : Lent) → PosedReady bytes ends target m t count posed
       → JudgesForm (m .0) (map nf gens) (word (take (t .0) (posed .form))) n r before after → Judges bytes ends target n r before after
   judges-ready r before after ready judged =
       let sized = first-no-passed first-questions (sizes before ∷ []) (ready .passed) ∙ first-no-one (sizes before) in
-      subst (λ (a : Asked). Judged a q gens (word target) n r before after) (sym sized)
-      (given-judged gens (word target) n (sizes before) q r before after (rw (ready .letters, ready .form) at judged))
+      subst (λ (a : Asked). Judged a q (plain gens) (word target) n r before after) (sym sized)
+      (given-judged gens (word target) n (sizes before) q r before after (rw (ready .forms .letters, ready .forms .form) at judged))

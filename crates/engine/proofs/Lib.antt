@@ -1,3 +1,3 @@
 mod Verdicts
 mod Settling
-mod GivenList
+pub mod GivenList

@@ -7,6 +7,7 @@ use native.Mathlib.Omega.{arith}
 use lib.ListN.{length, length-map}
 use Rattle.words.specs.Word.{Word}
 use Rattle.words.specs.Bytes.{letter, word}
+use Rattle.products.specs.Product.{plain}
 use Rattle.sizes.specs.Questions.{side}
 use Rattle.sizes.proofs.Passing.{SizesPassed}
 use Rattle.trees.specs.Numbering.{numbered}
@@ -29,7 +30,7 @@ used-within m t count few some =
 
 -- an answer is a verdict
 verdict-right : (gens : List Word) (form : List ℕ) (n : ℕ) (before after : List ℕ) (found : Found) → Answers gens form n before found after
-    → VerdictRight gens (word form) n (ofFound found) before after
+    → VerdictRight (plain gens) (word form) n (ofFound found) before after
 verdict-right gens form n before after (Series k) right = right
 verdict-right gens form n before after None right = right
 verdict-right gens form n before after Unfit right = right
@@ -70,7 +71,7 @@ module _ (n : ℕ) {gens : List Word} {m count : ℕ} {letters rests childrenR c
 
     -- what is searched fits, so what is found is right
     pub settled : (lent′ : Lent) (found : Found) → Searches count letters rests childrenR childrenS wholes form n found lent lent′
-        → Settled q gens (word form) n (ofFound found) lent lent′
+        → Settled q (plain gens) (word form) n (ofFound found) lent lent′
     settled lent′ found searches =
         record {
           right = verdict-right gens form n (lent .witness) (lent′ .witness) found (searches .answers fits gens (numbered gens) posed);

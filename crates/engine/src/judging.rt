@@ -12,9 +12,10 @@ ghost use lib.ListN.{length};
 ghost use Rattle.limits.specs.Limits.{mostLetters};
 ghost use Rattle.words.specs.Word.{Word};
 ghost use Rattle.words.specs.Bytes.{word};
+ghost use Rattle.products.specs.Product.{plain};
 ghost use Rattle.sizes.specs.Questions.{side, ofSizes};
 ghost use Rattle.queries.specs.Ready.{ReadyFor};
-ghost use Rattle.engine.specs.Judging.{ofFound, Settled, JudgesForm};
+ghost use Rattle.engine.specs.Judging.{ofFound, Settled, SettlesForm, JudgesForm};
 
 // The verdict that a search comes to. What is searched here fits; were it not so, a refusal would lose nothing.
 fn verdict_of(found: Found) -> Verdict
@@ -43,7 +44,7 @@ fn decide(
 ) -> Verdict
     ensures { λ r. ⌜ ((gens : List Word) (m : ℕ) → ReadyFor gens m count (now (letters .entry)) (now (rests .entry)) (now («children_r» .entry)) (now («children_s» .entry)) (now (wholes .entry)) (now (form .entry))
         → ofSizes m (length (now (form .entry))) (n .0) (length (now (first .entry))) (length (now (second .entry))) (length (now (witness .entry))) ≡ Asked.Passed
-        → Settled (side m (length (now (form .entry)))) gens (word (now (form .entry))) (n .0) r
+        → Settled (side m (length (now (form .entry)))) (plain gens) (word (now (form .entry))) (n .0) r
         (record { first = now (first .entry); second = now (second .entry); witness = now (witness .entry) })
         (record { first = now (first .exit); second = now (second .exit); witness = now (witness .exit) })) ⌝ }
 {
@@ -65,7 +66,50 @@ fn decide(
     ))
 }
 
-// The verdict on what is ready, where the sizes pass questions 12 to 15. Then both tables are zeroed.
+// The verdict on what is ready, once the sizes have passed questions 12 to 15; then both tables are zeroed. A form that is longer than any that is ready is
+// refused, and nothing changes then.
+pub fn settle(
+    form: &[u8],
+    m: Letters,
+    count: usize,
+    letters: &[u8],
+    rests: &[u16],
+    children_r: &[u16],
+    children_s: &[u16],
+    wholes: &[u16],
+    n: Factors,
+    first: &mut [u16],
+    second: &mut [u16],
+    witness: &mut [u8],
+) -> Verdict
+    ensures { λ r. ⌜ ((gens : List Word) → ReadyFor gens (m .0) count (now (letters .entry)) (now (rests .entry)) (now («children_r» .entry)) (now («children_s» .entry)) (now (wholes .entry)) (now (form .entry))
+        → SettlesForm (m .0) gens (word (now (form .entry))) (n .0) r
+        (record { first = now (first .entry); second = now (second .entry); witness = now (witness .entry) })
+        (record { first = now (first .exit); second = now (second .exit); witness = now (witness .exit) })) ⌝ }
+{
+    if limits::WORD_LETTERS < form.len() {
+        return Verdict::Refused(Refusal::TooManyLetters);
+    }
+    let t = form.len() as u16;
+    let verdict = decide(
+        form,
+        count,
+        letters,
+        rests,
+        children_r,
+        children_s,
+        wholes,
+        n,
+        first,
+        second,
+        witness,
+    );
+    sizes::zero_table(first, m, Letters(t));
+    sizes::zero_table(second, m, Letters(t));
+    verdict
+}
+
+// The same where the sizes are still to be asked about.
 pub(crate) fn judge_form(
     form: &[u8],
     m: Letters,
@@ -89,23 +133,19 @@ pub(crate) fn judge_form(
     let t = form.len() as u16;
     match sizes::of_sizes(m, Letters(t), n, first.len(), second.len(), witness.len()) {
         Asked::Refused(refusal) => Verdict::Refused(refusal),
-        Asked::Passed => {
-            let verdict = decide(
-                form,
-                count,
-                letters,
-                rests,
-                children_r,
-                children_s,
-                wholes,
-                n,
-                first,
-                second,
-                witness,
-            );
-            sizes::zero_table(first, m, Letters(t));
-            sizes::zero_table(second, m, Letters(t));
-            verdict
-        }
+        Asked::Passed => settle(
+            form,
+            m,
+            count,
+            letters,
+            rests,
+            children_r,
+            children_s,
+            wholes,
+            n,
+            first,
+            second,
+            witness,
+        ),
     }
 }

@@ -1,5 +1,5 @@
 // The bounded verdict: is the target a product of at most n generators?
-mod judging;
+pub mod judging;
 
 use queries::Posed;
 use words::Factors;
@@ -30,10 +30,10 @@ pub fn judge(
         (record { first = now (first .exit); second = now (second .exit); witness = now (witness .exit) }) ⌝ }
 {
     let mut form = [0u8; limits::WORD_LETTERS];
-    let mut letters = [0u8; limits::STATES_ROOM];
-    let mut rests = [0u16; limits::STATES_ROOM];
-    let mut children_r = [0u16; limits::STATES_ROOM];
-    let mut children_s = [0u16; limits::STATES_ROOM];
+    let mut letters = [0u8; limits::LIST_STATES];
+    let mut rests = [0u16; limits::LIST_STATES];
+    let mut children_r = [0u16; limits::LIST_STATES];
+    let mut children_s = [0u16; limits::LIST_STATES];
     let mut wholes = [0u16; limits::GENERATORS];
     match queries::pose(
         bytes,

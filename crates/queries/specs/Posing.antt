@@ -3,11 +3,11 @@ use mathlib.Core.Path.{_≡_}
 use mathlib.Core.List.{List, [], _∷_}
 use Prim.Native.Nat.{ℕ, _≤_, _<_}
 use lib.ListN.{length, take, drop}
-use Rattle.limits.specs.Limits.{mostLetters, mostGenerators, mostOfList, mostStates}
+use Rattle.limits.specs.Limits.{mostLetters, mostGenerators, mostOfList, mostSignedGenerators, mostOfSignedList}
 use Rattle.slices.specs.Slices.{overwritten}
 use Rattle.words.specs.Word.{nf}
 use Rattle.words.specs.Bytes.{word, bytes}
-use Rattle.refusals.specs.Questions.{firstNo}
+use Rattle.refusals.specs.Questions.{firstNo, ofLetters}
 use Rattle.refusals.specs.declared.Refusal.the-variants.{OutputTooShort}
 use Rattle.refusals.specs.declared.Asked.{Asked}
 use Rattle.refusals.specs.declared.Asked.the-variants.{Passed, Refused}
@@ -25,27 +25,28 @@ pub record Lent : Type 0 where
   pub form : List ℕ
   pub tree : Slices
 
--- The tree's slices have room for the states of any list, and for the nodes of its generators; and the form's for any target.
-pub record TreeRoom (letters rests childrenR childrenS wholes : ℕ) : Type 0 where
-  pub room-letters : mostStates ≤ letters
-  pub room-rests : mostStates ≤ rests
-  pub room-r : mostStates ≤ childrenR
-  pub room-s : mostStates ≤ childrenS
-  pub room-wholes : mostGenerators ≤ wholes
+-- The tree's slices have room for the states of a list of at most `most` letters, and for the nodes of its generators; and the form's for any target.
+pub record TreeRoom (most generators letters rests childrenR childrenS wholes : ℕ) : Type 0 where
+  pub short : most ≤ mostOfSignedList
+  pub room-letters : most < letters
+  pub room-rests : most < rests
+  pub room-r : most < childrenR
+  pub room-s : most < childrenS
+  pub room-wholes : generators ≤ wholes
 
-pub record Room (form letters rests childrenR childrenS wholes : ℕ) : Type 0 where
+pub record Room (most generators form letters rests childrenR childrenS wholes : ℕ) : Type 0 where
   pub room-form : mostLetters ≤ form
-  pub tree : TreeRoom letters rests childrenR childrenS wholes
+  pub tree : TreeRoom most generators letters rests childrenR childrenS wholes
 
-abbrev pub HasRoom : Lent → Type 0
-HasRoom lent =
-    Room (length (lent .form)) (length (lent .tree .letters)) (length (lent .tree .rests)) (length (lent .tree .childrenR)) (length (lent .tree .childrenS))
-    (length (lent .tree .wholes))
+abbrev pub HasRoom : ℕ → ℕ → Lent → Type 0
+HasRoom most generators lent =
+    Room most generators (length (lent .form)) (length (lent .tree .letters)) (length (lent .tree .rests)) (length (lent .tree .childrenR))
+    (length (lent .tree .childrenS)) (length (lent .tree .wholes))
 
--- A list that has been reduced: its letters, one generator behind the other, and their ends.
+-- A list that has been reduced, with or without its inverses: its letters, one generator behind the other, and their ends.
 pub record ReducedList (letters ends : List ℕ) : Type 0 where
-  pub short : length letters ≤ mostOfList
-  pub few : length ends ≤ mostGenerators
+  pub short : length letters ≤ mostOfSignedList
+  pub few : length ends ≤ mostSignedGenerators
   pub rising : (i j : ℕ) → i ≤ j → j < length ends → at ends i ≤ at ends j
   pub within : (j : ℕ) → j < length ends → at ends j ≤ length letters
   pub normal : AllNormal (generators letters ends)
@@ -70,6 +71,11 @@ pub record PosesReduced (letters ends target : List ℕ) (r : Posed) (before aft
   pub form : after .form ≡ overwritten (bytes (nf (word target))) (before .form)
   pub tree : Plants letters ends (length (nf (word target))) r (before .tree) (after .tree)
 
+-- A reduced list and a target that has passed questions 8 and 10 are posed where there is room for them; where there is none nothing changes.
+pub record PosesForms (letters ends target : List ℕ) (r : Posed) (before after : Lent) : Type 0 where
+  pub posed : HasRoom (length letters) (length ends) before → ReducedList letters ends → ofLetters target ≡ Passed → PosesReduced letters ends target r before after
+  pub unfit : (HasRoom (length letters) (length ends) before → ⊥) → (r ≡ Posed·Refused OutputTooShort) × (after ≡ before)
+
 -- By what the questions say: a refusal changes nothing lent.
 abbrev pub ByQuestions : Asked → List ℕ → List ℕ → List ℕ → Posed → Lent → Lent → Type 0
 ByQuestions (Refused refusal) bytes ends target r before after = (r ≡ Posed·Refused refusal) × (after ≡ before)
@@ -84,7 +90,7 @@ PosesList bytes ends target r before after = ByQuestions (question11 (generators
 abbrev pub ofQuery : List ℕ → List ℕ → List ℕ → Asked
 ofQuery bytes ends target = firstNo (ofList bytes ends target ∷ question11 (generators bytes ends) ∷ [])
 
--- Where there is room the questions are asked; else nothing changes.
+-- Where there is room for every list that the questions let pass, they are asked; else nothing changes.
 pub record Poses (bytes ends target : List ℕ) (r : Posed) (before after : Lent) : Type 0 where
-  pub posed : HasRoom before → ByQuestions (ofQuery bytes ends target) bytes ends target r before after
-  pub unfit : (HasRoom before → ⊥) → (r ≡ Posed·Refused OutputTooShort) × (after ≡ before)
+  pub posed : HasRoom mostOfList mostGenerators before → ByQuestions (ofQuery bytes ends target) bytes ends target r before after
+  pub unfit : (HasRoom mostOfList mostGenerators before → ⊥) → (r ≡ Posed·Refused OutputTooShort) × (after ≡ before)

@@ -3,7 +3,7 @@ use mathlib.Core.Path.{_≡_}
 use mathlib.Core.List.{List}
 use Prim.Native.Nat.{ℕ, suc, _≤_}
 use lib.ListN.{length}
-use Rattle.limits.specs.Limits.{mostLetters, mostGenerators, mostOfList}
+use Rattle.limits.specs.Limits.{mostLetters, mostSignedGenerators, mostOfSignedList}
 use Rattle.words.specs.Word.{Word, Normal}
 use Rattle.words.specs.Bytes.{word}
 use Rattle.products.specs.State.{AllNormal}
@@ -16,7 +16,7 @@ pub record ReadyFor (gens : List Word) (m count : ℕ) (letters rests childrenR 
   pub tree : Tree gens (numbered gens) letters rests childrenR childrenS wholes
   pub size : length (numbered gens) ≡ count
   pub few : count ≤ suc m
-  pub short : m ≤ mostOfList
-  pub few-generators : length gens ≤ mostGenerators
+  pub short : m ≤ mostOfSignedList
+  pub few-generators : length gens ≤ mostSignedGenerators
   pub form-normal : Normal (word form)
   pub form-short : length form ≤ mostLetters

@@ -1,8 +1,11 @@
-// Whether the lent slices have room for all that the questions let pass.
+// Whether the lent slices have room for a target's form, and for the tree of a list.
 ghost use Rattle.refusals.specs.Telling.{Tells};
 ghost use Rattle.queries.specs.Posing.{Room};
 
+// Of a list of at most `most` letters and `generators` generators.
 pub(crate) fn has_room(
+    most: usize,
+    generators: usize,
     form: usize,
     letters: usize,
     rests: usize,
@@ -10,24 +13,27 @@ pub(crate) fn has_room(
     children_s: usize,
     wholes: usize,
 ) -> bool
-    ensures { λ r. ⌜ Tells r (Room form letters rests «children_r» «children_s» wholes) ⌝ }
+    ensures { λ r. ⌜ Tells r (Room most generators form letters rests «children_r» «children_s» wholes) ⌝ }
 {
+    if limits::SIGNED_ROOM < most {
+        return false;
+    }
     if form < limits::WORD_LETTERS {
         return false;
     }
-    if letters < limits::STATES_ROOM {
+    if letters <= most {
         return false;
     }
-    if rests < limits::STATES_ROOM {
+    if rests <= most {
         return false;
     }
-    if children_r < limits::STATES_ROOM {
+    if children_r <= most {
         return false;
     }
-    if children_s < limits::STATES_ROOM {
+    if children_s <= most {
         return false;
     }
-    if wholes < limits::GENERATORS {
+    if wholes < generators {
         return false;
     }
     true

@@ -7,7 +7,7 @@ use crate::fitting::has_room;
 use words::Asked;
 use words::Letters;
 use words::Refusal;
-ghost use Rattle.queries.specs.Posing.{Poses};
+ghost use Rattle.queries.specs.Posing.{Poses, PosesForms};
 
 // What is ready: m and t, which are the letters of the reduced list and of the target's form, and the number of the tree's nodes. Or the refusal.
 pub enum Posed {
@@ -51,6 +51,8 @@ pub fn pose(
         }) ⌝ }
 {
     if has_room(
+        limits::LIST_ROOM,
+        limits::GENERATORS,
         form.len(),
         letters.len(),
         rests.len(),
@@ -72,6 +74,65 @@ pub fn pose(
                 wholes,
             ),
         };
+    }
+    Posed::Refused(Refusal::OutputTooShort)
+}
+
+// The same for a list that is reduced already, with or without its inverses, and a target that has passed questions 8 and 10: no question is put.
+pub fn pose_reduced(
+    list_letters: &[u8],
+    list_ends: &[u16],
+    target: &[u8],
+    form: &mut [u8],
+    letters: &mut [u8],
+    rests: &mut [u16],
+    children_r: &mut [u16],
+    children_s: &mut [u16],
+    wholes: &mut [u16],
+) -> Posed
+    ensures { λ r. ⌜ PosesForms (now («list_letters» .entry)) (now («list_ends» .entry)) (now (target .entry)) r
+        (record {
+          form = now (form .entry);
+          tree = record {
+            letters = now (letters .entry);
+            rests = now (rests .entry);
+            childrenR = now («children_r» .entry);
+            childrenS = now («children_s» .entry);
+            wholes = now (wholes .entry);
+          };
+        })
+        (record {
+          form = now (form .exit);
+          tree = record {
+            letters = now (letters .exit);
+            rests = now (rests .exit);
+            childrenR = now («children_r» .exit);
+            childrenS = now («children_s» .exit);
+            wholes = now (wholes .exit);
+          };
+        }) ⌝ }
+{
+    if has_room(
+        list_letters.len(),
+        list_ends.len(),
+        form.len(),
+        letters.len(),
+        rests.len(),
+        children_r.len(),
+        children_s.len(),
+        wholes.len(),
+    ) {
+        return posing::pose_forms(
+            list_letters,
+            list_ends,
+            target,
+            form,
+            letters,
+            rests,
+            children_r,
+            children_s,
+            wholes,
+        );
     }
     Posed::Refused(Refusal::OutputTooShort)
 }

@@ -7,6 +7,7 @@ use words::Refusal;
 use words::Written;
 ghost use mathlib.Core.Path.{_≡_};
 ghost use lib.ListN.{length};
+ghost use Rattle.limits.specs.Limits.{mostGenerators, mostOfList};
 ghost use Rattle.refusals.specs.Questions.{ofLetters};
 ghost use Rattle.lists.specs.Questions.{ofList};
 ghost use Rattle.queries.specs.Posing.{ReducedList, TreeRoom, Room, Plants, PosesReduced, PosesList};
@@ -22,9 +23,9 @@ fn plant(
     children_s: &mut [u16],
     wholes: &mut [u16],
 ) -> Posed
-    requires { ⌜ ReducedList (now «list_letters») (now «list_ends») ⌝ }
-    requires { ⌜ TreeRoom (length (now letters)) (length (now rests)) (length (now «children_r»)) (length (now «children_s»)) (length (now wholes)) ⌝ }
-    ensures { λ r. ⌜ Plants (now («list_letters» .entry)) (now («list_ends» .entry)) (t .0) r
+    requires { ⌜ TreeRoom (length (now «list_letters»)) (length (now «list_ends»)) (length (now letters)) (length (now rests)) (length (now «children_r»)) (length (now «children_s»)) (length (now wholes)) ⌝ }
+    ensures { λ r. ⌜ (ReducedList (now («list_letters» .entry)) (now («list_ends» .entry))
+        → Plants (now («list_letters» .entry)) (now («list_ends» .entry)) (t .0) r
         (record {
           letters = now (letters .entry);
           rests = now (rests .entry);
@@ -38,7 +39,7 @@ fn plant(
           childrenR = now («children_r» .exit);
           childrenS = now («children_s» .exit);
           wholes = now (wholes .exit);
-        }) ⌝ }
+        })) ⌝ }
 {
     match trees::build(
         list_letters,
@@ -54,8 +55,8 @@ fn plant(
     }
 }
 
-// The same with the target, which has passed questions 8 and 10, reduced before. There is room for its form, so it is not refused.
-fn pose_reduced(
+// The same with the target reduced before. One that has passed questions 8 and 10 is not refused, since there is room for its form.
+pub(crate) fn pose_forms(
     list_letters: &[u8],
     list_ends: &[u16],
     target: &[u8],
@@ -66,10 +67,9 @@ fn pose_reduced(
     children_s: &mut [u16],
     wholes: &mut [u16],
 ) -> Posed
-    requires { ⌜ ReducedList (now «list_letters») (now «list_ends») ⌝ }
-    requires { ⌜ ofLetters (now target) ≡ Asked.Passed ⌝ }
-    requires { ⌜ Room (length (now form)) (length (now letters)) (length (now rests)) (length (now «children_r»)) (length (now «children_s»)) (length (now wholes)) ⌝ }
-    ensures { λ r. ⌜ PosesReduced (now («list_letters» .entry)) (now («list_ends» .entry)) (now (target .entry)) r
+    requires { ⌜ Room (length (now «list_letters»)) (length (now «list_ends»)) (length (now form)) (length (now letters)) (length (now rests)) (length (now «children_r»)) (length (now «children_s»)) (length (now wholes)) ⌝ }
+    ensures { λ r. ⌜ (ReducedList (now («list_letters» .entry)) (now («list_ends» .entry)) → ofLetters (now (target .entry)) ≡ Asked.Passed
+        → PosesReduced (now («list_letters» .entry)) (now («list_ends» .entry)) (now (target .entry)) r
         (record {
           form = now (form .entry);
           tree = record {
@@ -89,7 +89,7 @@ fn pose_reduced(
             childrenS = now («children_s» .exit);
             wholes = now (wholes .exit);
           };
-        }) ⌝ }
+        })) ⌝ }
 {
     match words::reduce(target, form) {
         Written::Refused(refusal) => Posed::Refused(refusal),
@@ -119,7 +119,7 @@ pub(crate) fn pose_list(
     wholes: &mut [u16],
 ) -> Posed
     requires { ⌜ ofList (now bytes) (now ends) (now target) ≡ Asked.Passed ⌝ }
-    requires { ⌜ Room (length (now form)) (length (now letters)) (length (now rests)) (length (now «children_r»)) (length (now «children_s»)) (length (now wholes)) ⌝ }
+    requires { ⌜ Room mostOfList mostGenerators (length (now form)) (length (now letters)) (length (now rests)) (length (now «children_r»)) (length (now «children_s»)) (length (now wholes)) ⌝ }
     ensures { λ r. ⌜ PosesList (now (bytes .entry)) (now (ends .entry)) (now (target .entry)) r
         (record {
           form = now (form .entry);
@@ -146,7 +146,7 @@ pub(crate) fn pose_list(
     let mut list_ends = [0u16; limits::GENERATORS];
     match lists::reduce_list(bytes, ends, &mut list_letters, &mut list_ends) {
         Written::Refused(refusal) => Posed::Refused(refusal),
-        Written::Length(m) => pose_reduced(
+        Written::Length(m) => pose_forms(
             &list_letters[..m.0 as usize],
             &list_ends[..ends.len()],
             target,

@@ -14,7 +14,7 @@ use Rattle.limits.specs.Limits.{mostStates}
 use Rattle.words.specs.Word.{Word}
 use Rattle.words.specs.Bytes.{letter, word}
 use Rattle.words.proofs.NormalForm.{equal-path}
-use Rattle.products.specs.Product.{YesRight, NoRight}
+use Rattle.products.specs.Product.{YesRight, NoRight, plain}
 use Rattle.products.specs.State.{weightless}
 use Rattle.products.proofs.Unbounded.{verdict-yes-empty}
 use Rattle.sizes.specs.Questions.{side}
@@ -38,7 +38,7 @@ nothing-decided q gens target lent nothing =
     record { right = verdict-yes-empty gens target (equal-path (sym nothing)); first = refl; second = refl }
 
 -- a verdict by an entry
-by-entry : (gens : List Word) (target : Word) (entry : ℕ) → (entry ≡ 0 → YesRight gens target) → ((entry ≡ 0 → ⊥) → NoRight gens target)
+by-entry : (gens : List Word) (target : Word) (entry : ℕ) → (entry ≡ 0 → YesRight (plain gens) target) → ((entry ≡ 0 → ⊥) → NoRight (plain gens) target)
     → ReachedRight gens target (ofEntry entry)
 by-entry gens target zero reached unreached = reached refl
 by-entry gens target (suc e) reached unreached =

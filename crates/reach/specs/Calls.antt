@@ -7,7 +7,7 @@ use Rattle.words.specs.Word.{Word, nf}
 use Rattle.words.specs.Bytes.{word}
 use Rattle.refusals.specs.declared.Asked.{Asked}
 use Rattle.refusals.specs.declared.Asked.the-variants.{Passed, Refused}
-use Rattle.products.specs.Product.{generators, YesRight, NoRight}
+use Rattle.products.specs.Product.{generators, YesRight, NoRight, plain}
 use Rattle.lists.specs.NormalList.{total}
 use Rattle.sizes.specs.Questions.{side}
 use Rattle.sizes.specs.Zeroing.{zeroed}
@@ -23,8 +23,8 @@ pub record Lent : Type 0 where
 -- A verdict on the target, by the list's generators. 02: "Yes holds exactly when some series of generator numbers, of any length, multiplies to the target."
 -- No holds exactly when none does.
 abbrev pub ReachedRight : List Word → Word → Reached → Type 0
-ReachedRight gens target Yes = YesRight gens target
-ReachedRight gens target No = NoRight gens target
+ReachedRight gens target Yes = YesRight (plain gens) target
+ReachedRight gens target No = NoRight (plain gens) target
 ReachedRight gens target (Reached·Refused refusal) = ⊥
 
 -- By what the questions say: a refusal changes nothing lent; a verdict is right, and both tables are zeroed for the side q, "as the bounded verdict does".

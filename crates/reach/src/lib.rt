@@ -26,10 +26,10 @@ pub fn reachable(
         (record { first = now (first .exit); second = now (second .exit) }) ⌝ }
 {
     let mut form = [0u8; limits::WORD_LETTERS];
-    let mut letters = [0u8; limits::STATES_ROOM];
-    let mut rests = [0u16; limits::STATES_ROOM];
-    let mut children_r = [0u16; limits::STATES_ROOM];
-    let mut children_s = [0u16; limits::STATES_ROOM];
+    let mut letters = [0u8; limits::LIST_STATES];
+    let mut rests = [0u16; limits::LIST_STATES];
+    let mut children_r = [0u16; limits::LIST_STATES];
+    let mut children_s = [0u16; limits::LIST_STATES];
     let mut wholes = [0u16; limits::GENERATORS];
     match queries::pose(
         bytes,

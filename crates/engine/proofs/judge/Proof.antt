@@ -1,9 +1,9 @@
 -- The local arrays have room, so a list and a target that pass the questions are made ready, and then judged. Assumes nothing.
 use mathlib.Core.Path.{sym}
-use Prim.Native.Nat.{ℕ, _≤_}
+use Prim.Native.Nat.{ℕ, _+_, _≤_}
 use lib.ListN.{length, replicate, length-replicate}
 use lib.Seq.{length-take-le}
-use Rattle.limits.specs.Limits.{mostLetters, mostGenerators, mostStates}
+use Rattle.limits.specs.Limits.{mostLetters, mostGenerators, mostOfList}
 use Rattle.queries.specs.Posing.{Lent as Posed·Lent, HasRoom}
 use Rattle.queries.proofs.PosedReady.{PosedReady, posed-refused, posed-passed}
 use Rattle.engine.specs.Calls.{Lent}
@@ -36,10 +36,10 @@ zeros =
     record {
       form = replicate mostLetters 0;
       tree = record {
-        letters = replicate mostStates 0;
-        rests = replicate mostStates 0;
-        childrenR = replicate mostStates 0;
-        childrenS = replicate mostStates 0;
+        letters = replicate (mostOfList + 1) 0;
+        rests = replicate (mostOfList + 1) 0;
+        childrenR = replicate (mostOfList + 1) 0;
+        childrenS = replicate (mostOfList + 1) 0;
         wholes = replicate mostGenerators 0;
       };
     }
@@ -58,14 +58,15 @@ filled c =
       };
     }
 
-room : HasRoom zeros
+room : HasRoom mostOfList mostGenerators zeros
 room =
     let form = length-replicate {A = ℕ} mostLetters 0 in
-    let states = length-replicate {A = ℕ} mostStates 0 in
+    let states = length-replicate {A = ℕ} (mostOfList + 1) 0 in
     let wholes = length-replicate {A = ℕ} mostGenerators 0 in
     record {
       room-form = omega arith;
       tree = record {
+        short = omega arith;
         room-letters = omega arith;
         room-rests = omega arith;
         room-r = omega arith;
@@ -115,12 +116,12 @@ cast-form : tie.Need-cast-form
 cast-form c = search needs
 
 array-share-prefix-form : tie.Need-array-share-prefix-form
-array-share-prefix-form c = ready (c .before .before) .inside
+array-share-prefix-form c = ready (c .before .before) .forms .inside
 
 slice-aggregate-judge-form : tie.Need-slice-aggregate-judge-form
 slice-aggregate-judge-form c =
     let told = c .before .before .before in
-    sym (length-take-le (told .m .given .0 .1 .0 .0) (filled (posed told) .form) (ready told .inside))
+    sym (length-take-le (told .m .given .0 .1 .0 .0) (filled (posed told) .form) (ready told .forms .inside))
 
 slice-aggregate-judge-form-2 : tie.Need-slice-aggregate-judge-form-2
 slice-aggregate-judge-form-2 c = search needs
@@ -146,7 +147,7 @@ judge-form-requires : tie.Need-judge-form-requires
 judge-form-requires c κs =
     let told = c .before .before .before .before .before .before .before .before .before .before .before in
     let r = ready told in
-    omega (arith, length-take-le (told .m .given .0 .1 .0 .0) (filled (posed told) .form) (r .inside), r .form-short)
+    omega (arith, length-take-le (told .m .given .0 .1 .0 .0) (filled (posed told) .form) (r .forms .inside), r .forms .form-short)
 
 returns : tie.Need-returns
 returns c =
@@ -172,7 +173,7 @@ returns-2 c =
     let f = j .judge-form in
     let last = f .last .1 .1 .1 .1 .1 .1 .1 .1 .1 in
     judges-ready (a .bytes .now) (a .ends .now) (a .target .now) (a .n .0) (f .result) (lent (start told))
-    (record { first = last .0; second = last .1 .0; witness = last .1 .1 .0 }) (ready told) (f .ensures _ (ready told .ready))
+    (record { first = last .0; second = last .1 .0; witness = last .1 .1 .0 }) (ready told) (f .ensures _ (ready told .forms .ready))
 
 pub judge-spec : {M : Type 1} → statement M
 judge-spec =

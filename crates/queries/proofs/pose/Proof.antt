@@ -1,5 +1,6 @@
 -- Where there is room the first questions are put, and then the list. Assumes nothing.
 use mathlib.Core.Path.{refl, sym, _∙_}
+use Rattle.limits.specs.Limits.{mostGenerators, mostOfList}
 use Rattle.refusals.proofs.Telling.{told, told-not}
 use Rattle.queries.specs.Posing.{Lent, HasRoom}
 use Rattle.queries.proofs.ByQuestions.{query-refused, query-posed}
@@ -35,7 +36,7 @@ lent c =
       };
     }
 
-room : (c : tie.After-of-list) → HasRoom (lent (start c))
+room : (c : tie.After-of-list) → HasRoom mostOfList mostGenerators (lent (start c))
 room c = told (tested c .has-room .result) (c .before .if1 .taken) (tested c .has-room .ensures)
 
 has-room-requires : tie.Need-has-room-requires

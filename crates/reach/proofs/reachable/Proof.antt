@@ -1,9 +1,9 @@
 -- The list and the target are made ready in local arrays, and then the verdict is on what is ready. Assumes nothing.
 use mathlib.Core.Path.{sym}
-use Prim.Native.Nat.{ℕ, _≤_}
+use Prim.Native.Nat.{ℕ, _+_, _≤_}
 use lib.ListN.{length, replicate, length-replicate}
 use lib.Seq.{length-take-le}
-use Rattle.limits.specs.Limits.{mostLetters, mostGenerators, mostStates}
+use Rattle.limits.specs.Limits.{mostLetters, mostGenerators, mostOfList}
 use Rattle.words.specs.declared.Letters.{Letters}
 use Rattle.queries.specs.Posing.{Lent as Posing, HasRoom}
 use Rattle.queries.proofs.PosedReady.{PosedReady, posed-refused, posed-passed}
@@ -37,10 +37,10 @@ empty =
     record {
       form = replicate mostLetters 0;
       tree = record {
-        letters = replicate mostStates 0;
-        rests = replicate mostStates 0;
-        childrenR = replicate mostStates 0;
-        childrenS = replicate mostStates 0;
+        letters = replicate (mostOfList + 1) 0;
+        rests = replicate (mostOfList + 1) 0;
+        childrenR = replicate (mostOfList + 1) 0;
+        childrenS = replicate (mostOfList + 1) 0;
         wholes = replicate mostGenerators 0;
       };
     }
@@ -59,12 +59,13 @@ written c =
       };
     }
 
-room : HasRoom empty
+room : HasRoom mostOfList mostGenerators empty
 room =
-    let nodes = length-replicate {A = ℕ} mostStates 0 in
+    let nodes = length-replicate {A = ℕ} (mostOfList + 1) 0 in
     record {
       room-form = omega (arith, length-replicate {A = ℕ} mostLetters 0);
       tree = record {
+        short = omega arith;
         room-letters = omega (arith, nodes);
         room-rests = omega (arith, nodes);
         room-r = omega (arith, nodes);
@@ -121,12 +122,12 @@ cast-form : tie.Need-cast-form
 cast-form c = search needs
 
 array-share-prefix-form : tie.Need-array-share-prefix-form
-array-share-prefix-form c = posed (c .before .before) .inside
+array-share-prefix-form c = posed (c .before .before) .forms .inside
 
 slice-aggregate-reach-form : tie.Need-slice-aggregate-reach-form
 slice-aggregate-reach-form c =
     let r = c .before .before .before in
-    sym (length-take-le (t r .0) (written (asked r) .form) (posed r .inside))
+    sym (length-take-le (t r .0) (written (asked r) .form) (posed r .forms .inside))
 
 slice-aggregate-reach-form-2 : tie.Need-slice-aggregate-reach-form-2
 slice-aggregate-reach-form-2 c = search needs
@@ -150,7 +151,7 @@ slice-aggregate-reach-form-6 c =
 
 reach-form-requires : tie.Need-reach-form-requires
 reach-form-requires c κs =
-    let p = posed (c .before .before .before .before .before .before .before .before .before .before) .ready in
+    let p = posed (c .before .before .before .before .before .before .before .before .before .before) .forms .ready in
     (omega (arith, p .few, p .short), p .form-short)
 
 returns : tie.Need-returns
@@ -175,7 +176,7 @@ returns-2 c =
     let s = start (ready reached) in
     let a = s .args in
     reaches-reduced (a .bytes .now) (a .ends .now) (a .target .now) (r .result) (lent s) _ _ _
-    (p .passed) (p .letters) (p .form) (r .ensures _ (p .ready))
+    (p .passed) (p .forms .letters) (p .forms .form) (r .ensures _ (p .forms .ready))
 
 pub reachable-spec : {M : Type 1} → statement M
 reachable-spec =

@@ -21,7 +21,7 @@ built c = c .before .before .before .before .before .before .before .before .bef
 
 -- the front of a slice is lent for the generators' nodes
 front : (c : tie.Start) → length (take (length (c .args .list-ends .now)) (c .args .wholes .now)) ≡ length (c .args .list-ends .now)
-front c = length-take-le (length (c .args .list-ends .now)) (c .args .wholes .now) (omega (arith, c .pre .0 .few, c .pre .1 .room-wholes))
+front c = length-take-le (length (c .args .list-ends .now)) (c .args .wholes .now) (omega (arith, c .pre .room-wholes))
 
 -- the slices of the tree, before it is built and afterwards
 abbrev given : tie.Start → Slices
@@ -94,7 +94,7 @@ returns : tie.Need-returns
 returns c =
     let b = c .before .before .before .before .before .before .before .before .before .before .before .before in
     let s = begun b in
-    absurd ((rw (c .enum-told .given .1) at (b .build .ensures)) .0 (list-fits _ _ _ _ _ (s .pre .0) (s .pre .1) (front s)))
+    λ reduced. absurd ((rw (c .enum-told .given .1) at (b .build .ensures)) .0 (list-fits _ _ _ _ _ reduced (s .pre) (front s)))
 
 same-length-6 : tie.Need-same-length-6
 same-length-6 c = search needs
@@ -119,7 +119,8 @@ returns-2 c =
     let a = s .args in
     let k = length (a .list-ends .now) in
     let behind = drop k (a .wholes .now) in
-    let all : length (nodes b) ≡ k = b .build .kept .1 .1 .1 .1 .1 .1 .0 ∙ front s in (
+    let all : length (nodes b) ≡ k = b .build .kept .1 .1 .1 .1 .1 .1 .0 ∙ front s in
+    λ reduced. (
       refl,
       refl,
       record {

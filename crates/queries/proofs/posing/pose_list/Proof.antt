@@ -1,5 +1,5 @@
 -- The list is reduced, and what stands in the fronts of the local arrays is a reduced list. Assumes nothing.
-use mathlib.Core.Path.{_≡_, refl, sym, subst₂}
+use mathlib.Core.Path.{_≡_, refl, sym, ap, subst₂}
 use mathlib.Core.List.{List}
 use Prim.Native.Nat.{ℕ, _≤_}
 use lib.ListN.{length, take}
@@ -12,10 +12,12 @@ use Rattle.products.proofs.Generators.{generators-length}
 use Rattle.lists.specs.Questions.{question11}
 use Rattle.lists.specs.NormalList.{normalBytes, normalEnds}
 use Rattle.lists.specs.Reducing.{Checked}
+use Rattle.lists.proofs.NormalList.{normal-bytes-length}
 use Rattle.lists.proofs.Passing.{list-passed, list-alone, target-alone}
-use Rattle.lists.proofs.ReducedList.{total-short, list-too-long, list-short, list-length, list-bytes, list-ends}
+use Rattle.lists.proofs.ShortForms.{total-short}
+use Rattle.lists.proofs.ReducedList.{list-too-long, list-short, list-length, list-bytes, list-ends}
 use Rattle.queries.specs.Posing.{Lent, ReducedList, PosesReduced}
-use Rattle.queries.proofs.ReducedList.{reduced-list}
+use Rattle.queries.proofs.ReducedList.{reduced-list, room-for}
 use Rattle.queries.proofs.ByQuestions.{list-refused, list-posed}
 use native.Mathlib.Omega.{arith}
 use borrow.Author.Needs.{needs}
@@ -32,7 +34,7 @@ written c = c .before .before .before .before
 abbrev start : tie.After-m → tie.Start
 start c = begun (written c)
 
-abbrev told : tie.After-pose-reduced → tie.After-m
+abbrev told : tie.After-pose-forms → tie.After-m
 told c = c .before .before .before .before .before .before .before .before .before .before .before
 
 abbrev gens : tie.Start → List Word
@@ -79,6 +81,13 @@ the-letters c = list-bytes (start c .args .bytes .now) (start c .args .ends .now
 the-ends : (c : tie.After-m) → take (length (start c .args .ends .now)) (written c .reduce-list .last .1 .1 .1 .0) ≡ normalEnds 0 (gens (start c))
 the-ends c = list-ends (start c .args .bytes .now) (start c .args .ends .now) _ _ _ _ _ (written c .reduce-list .ensures) (checked (start c)) refl refl (c .m .given .1)
 
+reduced : (c : tie.After-m)
+    → ReducedList (take (c .m .given .0 .0 .0) (written c .reduce-list .last .1 .1 .0)) (take (length (start c .args .ends .now)) (written c .reduce-list .last .1 .1 .1 .0))
+reduced c =
+    let a = start c .args in
+    let numbers = generators-length (a .bytes .now) 0 (a .ends .now) in
+    subst₂ ReducedList (sym (the-letters c)) (sym (the-ends c)) (reduced-list (gens (start c)) (omega (arith, few (start c))) (none-long c))
+
 slice-aggregate-reduce-list : tie.Need-slice-aggregate-reduce-list
 slice-aggregate-reduce-list c = search needs
 
@@ -100,35 +109,36 @@ cast-list-letters c = search needs
 array-share-prefix-list-letters : tie.Need-array-share-prefix-list-letters
 array-share-prefix-list-letters c = room-letters (c .before .before)
 
-slice-aggregate-pose-reduced : tie.Need-slice-aggregate-pose-reduced
-slice-aggregate-pose-reduced c =
+slice-aggregate-pose-forms : tie.Need-slice-aggregate-pose-forms
+slice-aggregate-pose-forms c =
     let t = c .before .before .before in
     sym (length-take-le (t .m .given .0 .0 .0) (written t .reduce-list .last .1 .1 .0) (room-letters t))
 
 array-share-prefix-list-ends : tie.Need-array-share-prefix-list-ends
 array-share-prefix-list-ends c = room-ends (c .before .before .before)
 
-slice-aggregate-pose-reduced-2 : tie.Need-slice-aggregate-pose-reduced-2
-slice-aggregate-pose-reduced-2 c =
+slice-aggregate-pose-forms-2 : tie.Need-slice-aggregate-pose-forms-2
+slice-aggregate-pose-forms-2 c =
     let t = c .before .before .before .before in
     sym (length-take-le (length (start t .args .ends .now)) (written t .reduce-list .last .1 .1 .1 .0) (room-ends t))
 
-pose-reduced-requires : tie.Need-pose-reduced-requires
-pose-reduced-requires c κs =
+pose-forms-requires : tie.Need-pose-forms-requires
+pose-forms-requires c κs =
     let t = c .before .before .before .before .before .before .before .before .before .before in
-    let a = start t .args in
-    let numbers = generators-length (a .bytes .now) 0 (a .ends .now) in (
-      subst₂ ReducedList (sym (the-letters t)) (sym (the-ends t)) (reduced-list (gens (start t)) (omega (arith, numbers, few (start t))) (none-long t)),
-      (target-alone (a .bytes .now) (a .ends .now) (a .target .now) (start t .pre .0), start t .pre .1),
-    )
+    let letters = take (t .m .given .0 .0 .0) (written t .reduce-list .last .1 .1 .0) in
+    let ends = take (length (start t .args .ends .now)) (written t .reduce-list .last .1 .1 .1 .0) in
+    room-for letters ends
+    (omega (arith, ap length (the-letters t), normal-bytes-length (gens (start t)), total-short (gens (start t)) (none-long t)))
+    (omega (arith, length-take-le (length (start t .args .ends .now)) (written t .reduce-list .last .1 .1 .1 .0) (room-ends t), few (start t)))
+    (start t .pre .1)
 
 returns : tie.Need-returns
 returns c =
-    let reduced = c .before .before .before .before .before in
-    let s = begun reduced in
+    let asked = c .before .before .before .before .before in
+    let s = begun asked in
     let a = s .args in
     list-refused (a .bytes .now) (a .ends .now) (a .target .now) (lent s)
-    (list-too-long (a .bytes .now) (a .ends .now) _ _ _ _ _ (reduced .reduce-list .ensures) (checked s) refl refl (c .before .refusal .given .1))
+    (list-too-long (a .bytes .now) (a .ends .now) _ _ _ _ _ (asked .reduce-list .ensures) (checked s) refl refl (c .before .refusal .given .1))
 
 same-length : tie.Need-same-length
 same-length c = search needs
@@ -151,7 +161,7 @@ same-length-6 c = search needs
 returns-2 : tie.Need-returns-2
 returns-2 c =
     let posed = c .before .before .before .before .before .before .before .before .before .before .before .before in
-    let p = posed .pose-reduced in
+    let p = posed .pose-forms in
     let t = told posed in
     let a = start t .args in
     let before : Lent = lent (start t) in
@@ -167,7 +177,8 @@ returns-2 c =
       };
     } in
     list-posed (a .bytes .now) (a .ends .now) (a .target .now) (p .result) before after (none-long t)
-    (subst₂ (λ (letters ends : List ℕ). PosesReduced letters ends (a .target .now) (p .result) before after) (the-letters t) (the-ends t) (p .ensures))
+    (subst₂ (λ (letters ends : List ℕ). PosesReduced letters ends (a .target .now) (p .result) before after) (the-letters t) (the-ends t)
+    (p .ensures (reduced t) (target-alone (a .bytes .now) (a .ends .now) (a .target .now) (start t .pre .0))))
 
 pub pose-list-spec : {M : Type 1} → statement M
 pose-list-spec =
@@ -180,10 +191,10 @@ pose-list-spec =
     enum-known-m
     cast-list-letters
     array-share-prefix-list-letters
-    slice-aggregate-pose-reduced
+    slice-aggregate-pose-forms
     array-share-prefix-list-ends
-    slice-aggregate-pose-reduced-2
-    pose-reduced-requires
+    slice-aggregate-pose-forms-2
+    pose-forms-requires
     returns
     same-length
     same-length-2

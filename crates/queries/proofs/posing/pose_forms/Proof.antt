@@ -16,8 +16,8 @@ use Rattle.words.proofs.Answering.{refused-of-answer, passed-of-answer, writes-
 use Rattle.queries.specs.Posing.{Plants}
 use native.Mathlib.Omega.{arith}
 use borrow.Author.Needs.{needs}
-use Rattle.queries.proofs.posing.pose_reduced.Statement.{statement}
-use Rattle.queries.proofs.posing.pose_reduced.Tie as tie
+use Rattle.queries.proofs.posing.pose_forms.Statement.{statement}
+use Rattle.queries.proofs.posing.pose_forms.Tie as tie
 
 -- Earlier states, each from a later one: the target is reduced, its length is known, the tree is planted.
 abbrev begun : tie.After-reduce → tie.Start
@@ -38,8 +38,8 @@ room-enough target form passed room =
 abbrev questions : tie.Start → Asked
 questions c = ofWord (c .args .target .now) (1 * length (c .args .target .now)) (length (c .args .form .now))
 
-asked : (c : tie.Start) → questions c ≡ Passed
-asked c = room-enough (c .args .target .now) (c .args .form .now) (c .pre .1 .0) (c .pre .1 .1 .room-form)
+asked : (c : tie.Start) → ofLetters (c .args .target .now) ≡ Passed → questions c ≡ Passed
+asked c passed = room-enough (c .args .target .now) (c .args .form .now) passed (c .pre .room-form)
 
 reduce-requires : tie.Need-reduce-requires
 reduce-requires c κs = search needs
@@ -60,7 +60,8 @@ returns : tie.Need-returns
 returns c =
     let r = c .before .before .before .before .before in
     let s = begun r in
-    absurd (passed-not-refused (sym (refused-of-answer (questions s) (length (nf (word (s .args .target .now)))) (sym (r .reduce .ensures .answer) ∙ c .before .refusal .given .1)) ∙ asked s))
+    λ reduced passed.
+    absurd (passed-not-refused (sym (refused-of-answer (questions s) (length (nf (word (s .args .target .now)))) (sym (r .reduce .ensures .answer) ∙ c .before .refusal .given .1)) ∙ asked s passed))
 
 same-length-2 : tie.Need-same-length-2
 same-length-2 c = search needs
@@ -88,8 +89,9 @@ returns-2 c =
     let r = reduced t in
     let s = begun r in
     let a = s .args in
+    λ reduced-list passed.
     record {
-      form = writes-front nf 1 (a .target .now) (a .form .now) (r .reduce .result) _ (r .reduce .ensures) (asked s);
+      form = writes-front nf 1 (a .target .now) (a .form .now) (r .reduce .result) _ (r .reduce .ensures) (asked s passed);
       tree =
           subst
           (λ (form : ℕ).
@@ -108,11 +110,11 @@ returns-2 c =
             childrenS = p .last .1 .1 .1 .1 .1 .1 .0;
             wholes = p .last .1 .1 .1 .1 .1 .1 .1 .0;
           }))
-          (passed-of-answer (questions s) (length (nf (word (a .target .now)))) (sym (r .reduce .ensures .answer) ∙ t .t .given .1) .1) (p .ensures);
+          (passed-of-answer (questions s) (length (nf (word (a .target .now)))) (sym (r .reduce .ensures .answer) ∙ t .t .given .1) .1) (p .ensures reduced-list);
     }
 
-pub pose-reduced-spec : {M : Type 1} → statement M
-pose-reduced-spec =
+pub pose-forms-spec : {M : Type 1} → statement M
+pose-forms-spec =
     tie.close
     (tie.spec
     reduce-requires
