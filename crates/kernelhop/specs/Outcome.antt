@@ -2,6 +2,7 @@
 use mathlib.Core.List.{List, [], _∷_}
 use Prim.Native.Nat.{ℕ}
 use lib.IntN.{ℤ}
+use Rattle.refusals.specs.Telling.{pick}
 use Rattle.refusals.specs.Questions.{number, place}
 use Rattle.words.specs.declared.Factors.{Factors}
 use Rattle.refusals.specs.declared.Refusal.{Refusal}
@@ -13,11 +14,13 @@ use Rattle.matrices.specs.declared.Turned.{Turned}
 use Rattle.matrices.specs.declared.Turned.the-variants.{Into, Refused as Turned·Refused}
 use Rattle.engine.specs.declared.Verdict.{Verdict}
 use Rattle.engine.specs.declared.Verdict.the-variants.{Member, None, Refused}
+use Rattle.subgroups.specs.declared.Part.{Part as subgroups·Part}
 use Rattle.reach.specs.declared.Reached.{Reached}
 use Rattle.reach.specs.declared.Reached.the-variants.{Yes, No, Refused as Reached·Refused}
 use Rattle.answers.specs.declared.Answer.{Answer}
 use Rattle.answers.specs.declared.Answer.the-variants.{Member as Answer·Member, None as Answer·None, Refused as Answer·Refused}
 use Rattle.kernelhop.specs.declared.Outcome.{Outcome}
+use Rattle.kernelhop.specs.declared.Part.{Part}
 
 -- a refusal by document 01's number, from 1 to 16, and its place
 abbrev pub ofRefusal : Refusal → Outcome
@@ -54,6 +57,10 @@ abbrev pub ofVerdict : Factors → Verdict → Outcome
 ofVerdict n (Member count) = yes (count .0)
 ofVerdict n None = no (n .0)
 ofVerdict n (Refused refusal) = ofRefusal refusal
+
+-- a part of the given slice: 0; of the inverse slice: 1
+abbrev pub ofPart : subgroups·Part → Part
+ofPart part = record { inverse = pick (part .inverse) 1 0; start = part .start; end = part .end }
 
 -- reachable: 1; not reachable: as none, with no n
 abbrev pub ofReached : Reached → Outcome

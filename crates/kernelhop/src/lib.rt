@@ -5,6 +5,7 @@ use matrices::Matrix;
 use matrices::Turned;
 use words::Factors;
 ghost use mathlib.Core.Path.{_≡_};
+ghost use lib.ListN.{length};
 ghost use Rattle.words.specs.Word.{nf, inverse};
 ghost use Rattle.words.specs.Calls.{Writes, Tests};
 ghost use Rattle.words.specs.declared.Written.{Written};
@@ -13,12 +14,14 @@ ghost use Rattle.matrices.specs.Calls.{TurnsWord, TurnsMatrix};
 ghost use Rattle.matrices.specs.declared.Turned.{Turned};
 ghost use Rattle.engine.specs.Calls.{Judges};
 ghost use Rattle.engine.specs.declared.Verdict.{Verdict};
+ghost use Rattle.subgroups.specs.Calls.{JudgesSigned};
+ghost use Rattle.subgroups.specs.Parts.{partOf};
 ghost use Rattle.reach.specs.Calls.{Reaches};
 ghost use Rattle.reach.specs.declared.Reached.{Reached};
 ghost use Rattle.answers.specs.declared.Answer.{Answer};
 ghost use Rattle.cards.specs.Calls.{AnswersCard};
 ghost use Rattle.kernelhop.specs.Release.{release};
-ghost use Rattle.kernelhop.specs.Outcome.{ofWritten, ofTested, ofTurned, entriesOr, ofVerdict, ofReached, ofAnswer};
+ghost use Rattle.kernelhop.specs.Outcome.{ofWritten, ofTested, ofTurned, entriesOr, ofVerdict, ofPart, ofReached, ofAnswer};
 
 // An answer: 0, and the length written, 1 for a normal word and 0 for another, the count of a member, 1 for a target that is reachable, or 0 for a matrix.
 // None: 255, and n; not reachable: 255, and 0. A refusal: the question's number, from 1 to 16, and its place.
@@ -28,12 +31,20 @@ pub struct Outcome {
     pub value: usize,
 }
 
+// The letters of a factor: from `start` up to `end` of the given slice where `inverse` is 0, and of the inverse slice where it is 1.
+#[repr(C)]
+pub struct Part {
+    pub inverse: u8,
+    pub start: u16,
+    pub end: u16,
+}
+
 // Which release this library is, as one number (`release` of specs/). It has its one home here, in the promise and in the code: whoever else needs it asks.
 #[no_mangle]
 pub extern "C" fn kernelhop_version() -> u32
-    ensures { λ r. ⌜ r ≡ release 1 3 0 ⌝ }
+    ensures { λ r. ⌜ r ≡ release 1 4 0 ⌝ }
 {
-    10_300
+    10_400
 }
 
 // The same as words::reduce.
@@ -117,6 +128,53 @@ pub extern "C" fn kernelhop_judge(
         Factors(n),
         engine::judge(bytes, ends, target, Factors(n), first, second, witness),
     )
+}
+
+// The same as subgroups::judge.
+#[no_mangle]
+pub extern "C" fn kernelhop_judge_subgroup(
+    bytes: &[u8],
+    ends: &[u16],
+    target: &[u8],
+    n: u16,
+    first: &mut [u16],
+    second: &mut [u16],
+    witness: &mut [u8],
+    inverses: &mut [u8],
+) -> Outcome
+    ensures { λ r. ⌜ ((v : Verdict)
+        × JudgesSigned (now (bytes .entry)) (now (ends .entry)) (now (target .entry)) n v
+        (record { first = now (first .entry); second = now (second .entry); witness = now (witness .entry) })
+        (record { first = now (first .exit); second = now (second .exit); witness = now (witness .exit) })
+        (now (inverses .entry)) (now (inverses .exit))
+        × (r ≡ ofVerdict (record { 0 = n }) v)) ⌝ }
+{
+    telling::verdict(
+        Factors(n),
+        subgroups::judge(
+            bytes,
+            ends,
+            target,
+            Factors(n),
+            first,
+            second,
+            witness,
+            inverses,
+        ),
+    )
+}
+
+// The part that subgroups::letters_of shows: no function of C returns a part of a slice.
+#[no_mangle]
+pub extern "C" fn kernelhop_letters_of(
+    bytes: &[u8],
+    ends: &[u16],
+    inverses: &[u8],
+    number: u8,
+) -> Part
+    ensures { λ r. ⌜ r ≡ ofPart (partOf (now (bytes .entry)) (now (ends .entry)) (length (now (inverses .entry))) number) ⌝ }
+{
+    telling::part(subgroups::part_of(bytes, ends, inverses.len(), number))
 }
 
 // The same as reach::reachable.

@@ -1,5 +1,6 @@
 // An answer told by two numbers.
 use crate::Outcome;
+use crate::Part;
 use answers::Answer;
 use engine::Verdict;
 use reach::Reached;
@@ -8,7 +9,7 @@ use words::Refusal;
 use words::Tested;
 use words::Written;
 ghost use mathlib.Core.Path.{_≡_};
-ghost use Rattle.kernelhop.specs.Outcome.{ofRefusal, ofWritten, ofTested, ofVerdict, ofReached, ofAnswer};
+ghost use Rattle.kernelhop.specs.Outcome.{ofRefusal, ofWritten, ofTested, ofVerdict, ofPart, ofReached, ofAnswer};
 
 // The number that stands for none, and for a no: no question has it.
 const NONE: u8 = 255;
@@ -66,6 +67,25 @@ pub(crate) fn verdict(n: Factors, answer: Verdict) -> Outcome
             value: n.0 as usize,
         },
         Verdict::Refused(why) => refusal(why),
+    }
+}
+
+pub(crate) fn part(part: subgroups::Part) -> Part
+    ensures { λ r. ⌜ r ≡ ofPart part ⌝ }
+{
+    let start = part.start;
+    let end = part.end;
+    if part.inverse {
+        return Part {
+            inverse: 1,
+            start,
+            end,
+        };
+    }
+    Part {
+        inverse: 0,
+        start,
+        end,
     }
 }
 

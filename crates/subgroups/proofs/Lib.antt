@@ -1,0 +1,6 @@
+mod SignedFactors
+mod Sizes
+mod Verdicts
+mod Lists
+mod FactorParts
+mod Showing
