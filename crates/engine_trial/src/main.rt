@@ -44,7 +44,7 @@ fn judge(
         (record { first = now (first .entry); second = now (second .entry); witness = now (witness .entry) })
         (record { first = now (first .exit); second = now (second .exit); witness = now (witness .exit) }) ⌝ }
 {
-    printing::call(bytes, ends, target, n);
+    showing::lists::call(bytes, ends, target, n);
     let verdict = engine::judge(bytes, ends, target, Factors(n), first, second, witness);
     printing::verdict(verdict);
     showing::lent::table(first);

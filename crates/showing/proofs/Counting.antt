@@ -1,7 +1,7 @@
 -- The loops that count along a slice: the count so far, and what is left to count. Assumes nothing.
 use mathlib.Core.Bool.{Bool, true, false}
 use mathlib.Core.Path.{_≡_, refl, sym, ap, _∙_}
-use mathlib.Core.List.{List, _∷_}
+use mathlib.Core.List.{List, [], _∷_}
 use Prim.Native.Nat.{ℕ, _+_, _≤_, _<_, zero-le}
 use native.Mathlib.Nat.{zero-add, add-zero}
 use native.Mathlib.Numerals.{add-one}
@@ -48,3 +48,8 @@ module _ {value : ℕ} {l : List ℕ} {count i : ℕ} where
   pub counted-all : Counted value l count i → length l ≤ i → count ≡ countOf value l
   counted-all counted end =
       sym (add-zero count) ∙ ap (λ (rest : List ℕ). count + countOf value rest) (sym (drop-of-length-le l end)) ∙ counted .rest
+
+-- no more than there are
+pub count-within : (value : ℕ) (l : List ℕ) → countOf value l ≤ length l
+count-within value [] = zero-le
+count-within value (x ∷ xs) = omega (arith, pick-few (eqb x value) (countOf value xs), count-within value xs)

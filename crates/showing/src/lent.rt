@@ -82,3 +82,13 @@ pub fn witness(bytes: &[u8]) {
     io::print_decimal(1, count_bytes(bytes, 255) as u64);
     io::write_all(1, b" full");
 }
+
+// The letters in front of a slice that was full of dots, and how many dots are left.
+pub fn letters(bytes: &[u8]) {
+    let dots = count_bytes(bytes, 46);
+    io::write_all(1, b"; '");
+    crate::word(&bytes[..bytes.len() - dots]);
+    io::write_all(1, b"', ");
+    io::print_decimal(1, dots as u64);
+    io::write_all(1, b" dots");
+}

@@ -1,4 +1,4 @@
-// A list as the trials print it: its letters and its ends.
+// A list as the trials print it: its letters and its ends; and what is asked of it.
 use crate::number;
 
 fn numbers(ends: &[u16]) {
@@ -26,4 +26,14 @@ pub fn list(bytes: &[u8], ends: &[u16]) {
     crate::word(bytes);
     io::write_all(1, b"'");
     list_ends(ends);
+}
+
+// The call of a bounded verdict: the list, the target, and n.
+pub fn call(bytes: &[u8], ends: &[u16], target: &[u8], n: u16) {
+    list(bytes, ends);
+    io::write_all(1, b", '");
+    crate::word(target);
+    io::write_all(1, b"',");
+    number(n);
+    io::write_all(1, b": ");
 }
