@@ -1,5 +1,5 @@
-"""A model of document 01, "Bounded products in the modular group", and of 02's change requests so far (M-100, M-101), written from their sentences alone
-and sharing nothing with the engine.
+"""A model of document 01, "Bounded products in the modular group", and of 02's change requests so far (M-100, M-101, M-103; M-102 asks for nothing that a
+caller sees), written from their sentences alone and sharing nothing with the engine.
 
 It is slow and plain on purpose. A word is reduced by erasing, a matrix has unlimited integers, the word of a matrix is read off the
 Stern-Brocot tree, and a verdict comes from a walk of the group, product by product; one without a bound comes from an automaton that reads the products.
@@ -8,9 +8,11 @@ Words are bytes, a matrix (a b; c d) is (a, b, c, d).
     normal_form, inverse, matrix, powers    the elements: words, matrices, and the word of a matrix
     first_series                            the verdict's mathematics: a walk, level by level, that keeps the first series of each element
     is_product                              the same without a bound: an automaton of loops, closed under the rules
+    inverses, first_signed_series           a list taken as a subgroup: the same walk, with inverses as factors
     ask, ask_each                           the questions at the door; Refused is the first no
-    reduced, inverted, matrix_of_word, word_of_matrix, verdict, list_verdict, reachable, list_reachable
+    reduced, inverted, matrix_of_word, word_of_matrix, verdict, list_verdict, reachable, list_reachable, subgroup_verdict, list_subgroup_verdict
                                             the calls, with their questions in rising order
+    part_of                                 where the letters of a factor stand, which tells no question
     line                                    what the program prints for a card
 """
 
@@ -113,16 +115,21 @@ def first_series(generators, target, n, group=BY_RULES, cap=200_000):
     the first of its own product: an earlier one of as many factors would make an earlier one of the whole. So the elements of a level are met, from those of
     the level before in their order and from the factors in theirs, in the order of their first series, and each for the first time by its own.
     """
+    return walk(enumerate(generators), target, n, group, cap)
+
+
+def walk(numbered, target, n, group, cap):
+    """The first series of factors that are given by their numbers, in rising order, and their words."""
     element, times = group
     one, goal = element(b""), element(target)
-    factors = [element(generator) for generator in generators]
+    factors = [(number, element(word)) for number, word in numbered]
     if goal == one:
         return []
     seen, level = {one}, [(one, [])]
     for _ in range(n):
         longer = []
         for before, series in level:
-            for number, factor in enumerate(factors):
+            for number, factor in factors:
                 after = times(before, factor)
                 if after == goal:
                     return [*series, number]
@@ -133,6 +140,25 @@ def first_series(generators, target, n, group=BY_RULES, cap=200_000):
                 raise TooLarge(f"more than {cap} elements")
         level = longer
     return None
+
+
+# The number of an inverse factor is this and its generator's.
+INVERSE = 128
+
+
+def inverses(generators):
+    """The normal forms of the generators' inverses."""
+    return [normal_form(inverse(generator)) for generator in generators]
+
+
+def signed_words(generators):
+    """The word of each factor of the list taken as a subgroup, by its number: the generators first, and then their inverses."""
+    return {**dict(enumerate(generators)), **dict(enumerate(inverses(generators), start=INVERSE))}
+
+
+def first_signed_series(generators, target, n, group=BY_RULES, cap=200_000):
+    """The same as first_series, where a factor may be a generator or its inverse, each costing one factor; the numbers are compared as they are written."""
+    return walk(signed_words(generators).items(), target, n, group, cap)
 
 
 def loops(generators):
@@ -303,6 +329,25 @@ def reachable(generators, target, tables, cap=200_000):
     return is_product(generators, word, cap)
 
 
+# The bytes that an inverse slice must hold (question 14).
+INVERSES = 640
+
+
+def signed_side(generators, target):
+    """q of a list taken as a subgroup, where m counts the inverses as well."""
+    return side([*generators, *inverses(generators)], target)
+
+
+def subgroup_verdict(generators, target, n, tables, room, inverse_room, cap=200_000):
+    """The first of the least series of signed factors, None for none. `inverse_room` is the length of the inverse slice: after a verdict its front is the
+    inverses, one behind the other."""
+    word = asked_of_list(generators, target)
+    ask(13, n <= 1000)
+    ask(14, room >= n and inverse_room >= INVERSES)
+    ask(15, min(tables) >= signed_side(generators, word) ** 2)
+    return first_signed_series(generators, word, n, cap=cap)
+
+
 def listed(letters, ends, target):
     """The generators of a list of letters with its ends: generator i runs from the end before it, or 0, up to its own end."""
     ask(7, len(ends) <= 64)
@@ -319,6 +364,30 @@ def list_verdict(letters, ends, target, n, tables, room, cap=200_000):
 
 def list_reachable(letters, ends, target, tables, cap=200_000):
     return reachable(listed(letters, ends, target), target, tables, cap)
+
+
+def list_subgroup_verdict(letters, ends, target, n, tables, room, inverse_room, cap=200_000):
+    return subgroup_verdict(listed(letters, ends, target), target, n, tables, room, inverse_room, cap)
+
+
+# The part of a factor that is not shown: the empty one at the start of the given slice.
+NO_PART = (0, 0, 0)
+
+
+def part_of(letters, ends, inverse_room, number):
+    """Where the letters of the factor of that number stand: 0 for the given slice and 1 for the inverse slice, and the places from which and up to which. What
+    the inverse slice holds is not looked at."""
+    try:
+        generators = listed(letters, ends, b"")
+        asked_of_list(generators, b"")
+        ask(14, inverse_room >= INVERSES)
+    except Refused:
+        return NO_PART
+    if number not in signed_words(generators):
+        return NO_PART
+    behind, generator = divmod(number, INVERSE)
+    places = [0, *itertools.accumulate(map(len, inverses(generators) if behind else generators))]
+    return (behind, *places[generator : generator + 2])
 
 
 # ---- the query card and its program

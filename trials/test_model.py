@@ -1,6 +1,6 @@
 #!/usr/bin/env python3
 """Tests of trials/model.py: document 01's worked values P1 to P12 and edges, the laws that its ways of computing rest on, the first of the least series,
-verdicts without a bound, and each question."""
+verdicts without a bound, lists taken as subgroups, and each question."""
 
 import itertools
 import os
@@ -35,12 +35,20 @@ def reached(generators, target):
     return model.reachable(generators, target, tables=(231361, 231361))
 
 
-def all_least(generators, target, n):
-    """All series of the least number of factors that multiply to the target, from all series in rising length, those of one length in their order."""
+def in_subgroup(generators, target, n=1000):
+    """The verdict on the subgroup of a list, with slices that are large enough."""
+    return model.subgroup_verdict(generators, target, n, tables=(986049, 986049), room=1000, inverse_room=640)
+
+
+def all_least(words, target, n):
+    """All series of the least number of factors that multiply to the target, from all series in rising length, those of one length in their order. The factors
+    are a list of words, or words by their numbers."""
+    if not isinstance(words, dict):
+        words = dict(enumerate(words))
     form = model.normal_form(target)
     for count in range(n + 1):
-        all_series = itertools.product(range(len(generators)), repeat=count)
-        reaching = [list(s) for s in all_series if model.normal_form(b"".join(generators[i] for i in s)) == form]
+        all_series = itertools.product(sorted(words), repeat=count)
+        reaching = [list(s) for s in all_series if model.normal_form(b"".join(words[i] for i in s)) == form]
         if reaching:
             return reaching
     return []
@@ -260,6 +268,145 @@ class WithoutABound(unittest.TestCase):
             model.is_product([b"R" * 200], b"R", cap=1000)
 
 
+class Subgroups(unittest.TestCase):
+    """A factor may be a generator, or, as 128 and its number, the inverse of one."""
+
+    def test_worked(self):
+        for generators, target, series in (
+            ([b"SR"], b"SRSRSR", [0, 0, 0]),
+            ([b"SR"], b"RSSRSS", [128, 128]),
+            # T times U to the -1st is SRRS
+            ([b"SR", b"SSR"], b"SS", [0, 129]),
+            # R is its own inverse, and a generator stands before every inverse
+            ([b"R"], b"R", [0]),
+            ([b"S", b"SS"], b"SS", [1]),
+            ([b"S"], b"SS", [128]),
+            # equal generators, as written and by the rules, and empty ones
+            ([b"RS", b"SR", b"SRRR"], b"RSSRSS", [129, 129]),
+            ([b"", b"S", b"RR", b"S", b""], b"SS", [129]),
+            # a list without generators
+            ([], b"RSSSR", []),
+            # powers of T, whose series may stand in any order
+            ([power_of_t(5), power_of_t(3)], power_of_t(1), [1, 1, 128]),
+            ([power_of_t(5), power_of_t(3)], power_of_t(-1), [0, 129, 129]),
+            ([power_of_t(9), power_of_t(7)], power_of_t(1), [1] * 4 + [128] * 3),
+        ):
+            self.assertEqual(in_subgroup(generators, target), series)
+        self.assertIsNone(in_subgroup([], b"R"))
+        self.assertIsNone(in_subgroup([b"S", b"R"], b"S", 0))
+        self.assertEqual(in_subgroup([b"S", b"R"], b"SSS", 0), [])
+        self.assertIsNone(in_subgroup([b"SR"], b"RSS", 0))
+        self.assertEqual(in_subgroup([b"SR"], (1, -1, 0, 1)), [128])
+
+    def test_by_all_series(self):
+        """The walk, by rules and by matrices, has the first of all series that are tried one by one."""
+        chance = random.Random(4)
+        choices = words(3)
+        several = 0
+        for _ in range(300):
+            generators, n = chance.choices(choices, k=chance.randrange(4)), chance.randrange(4)
+            factors = model.signed_words(generators)
+            target = b"".join(chance.choices(list(factors.values()) or [b"R"], k=chance.randrange(4)))
+            least = all_least(factors, target, n)
+            for group in (model.BY_RULES, model.BY_MATRICES):
+                self.assertEqual(model.first_signed_series(generators, target, n, group), min(least, default=None), (generators, target, n))
+            several += len(least) > 1
+        self.assertGreater(several, 20)
+
+    def test_inverses_that_are_typed(self):
+        """The plain verdict on the list with its inverses behind it, by other numbers."""
+        chance = random.Random(5)
+        choices = words(5)
+        for _ in range(200):
+            generators, target, n = chance.choices(choices, k=chance.randrange(4)), chance.choice(choices), chance.randrange(4)
+            typed = [*generators, *map(model.inverse, generators)]
+            series = judged(typed, target, n)
+            count = len(generators)
+            renamed = None if series is None else [number if number < count else 128 - count + number for number in series]
+            self.assertEqual(in_subgroup(generators, target, n), renamed, (generators, target, n))
+
+    def test_what_stays(self):
+        """The inverse of the target takes as many factors; so does the target, where a generator is replaced by its inverse, or the list conjugated with it;
+        and no more than without inverses."""
+        chance = random.Random(6)
+        choices = words(5)
+
+        def count(generators, target, call=in_subgroup):
+            series = call(generators, target, 3)
+            return 4 if series is None else len(series)
+
+        for _ in range(100):
+            generators, target, by = chance.choices(choices, k=chance.randint(1, 3)), chance.choice(choices), chance.choice(choices)
+            least = count(generators, target)
+            self.assertEqual(count(generators, model.inverse(target)), least)
+            self.assertEqual(count([model.inverse(generators[0]), *generators[1:]], target), least)
+            conjugated = [model.inverse(by) + word + by for word in [*generators, target]]
+            self.assertEqual(count(conjugated[:-1], conjugated[-1]), least)
+            self.assertLessEqual(least, count(generators, target, judged))
+
+    def test_a_finite_group(self):
+        """The group of order 3 that S makes: one factor is enough for each of its elements."""
+        for target in words(6):
+            form = model.normal_form(target)
+            expected = {b"": [], b"S": [0], b"SS": [128]}.get(form)
+            self.assertEqual(in_subgroup([b"S"], target), expected)
+
+    def test_lengths_of_inverses(self):
+        """Of a normal form of k letters the inverse has at most (3 k + 1) / 2, and so those of a list at most 512."""
+        for word in words(12):
+            if model.normal_form(word) == word:
+                [form] = model.inverses([word])
+                self.assertLessEqual(2 * len(form), 3 * len(word) + 1)
+        self.assertEqual(list(map(len, model.inverses([b"S", b"SR", b"SR" * 40, b"", b"SRR"]))), [2, 3, 120, 0, 2])
+        self.assertEqual(b"".join(model.inverses([b"SRSRS"] * 64)), b"SSRSSRSS" * 64)
+        self.assertEqual(model.signed_side([b"SRSRS"] * 64, b"SR" * 40), 993)
+
+    def test_a_walk_that_is_too_large(self):
+        with self.assertRaises(model.TooLarge):
+            model.first_signed_series([b"SRSR", b"SSRSSR"], b"R", 1000, cap=1000)
+
+
+class Parts(unittest.TestCase):
+    """Where the letters of a factor stand."""
+
+    LETTERS, ENDS = b"SSR" + b"SR" * 40 + b"SRR", [1, 3, 83, 83, 86]
+
+    def part(self, number, letters=LETTERS, ends=ENDS, inverse_room=640):
+        return model.part_of(letters, ends, inverse_room, number)
+
+    def test_each_factor(self):
+        generators = model.listed(self.LETTERS, self.ENDS, b"")
+        self.assertEqual(generators, [b"S", b"SR", b"SR" * 40, b"", b"SRR"])
+        slices = (self.LETTERS, b"".join(model.inverses(generators)))
+        for number, word in model.signed_words(generators).items():
+            inverse, start, end = self.part(number)
+            self.assertEqual((inverse, slices[inverse][start:end]), (number // 128, word))
+        self.assertEqual([self.part(number) for number in range(5)], [(0, 0, 1), (0, 1, 3), (0, 3, 83), (0, 83, 83), (0, 83, 86)])
+        self.assertEqual([self.part(number) for number in range(128, 133)], [(1, 0, 2), (1, 2, 5), (1, 5, 125), (1, 125, 125), (1, 125, 127)])
+        self.assertEqual(self.part(191, b"SRSRS" * 64, list(range(5, 321, 5))), (1, 504, 512))
+
+    def test_numbers_of_no_factor(self):
+        for number in (*range(5, 128), *range(133, 256)):
+            self.assertEqual(self.part(number), (0, 0, 0))
+        for number in range(256):
+            self.assertEqual(self.part(number, b"", []), (0, 0, 0))
+
+    def test_a_question_that_is_answered_no(self):
+        for letters, ends, inverse_room in (
+            (b"SR", [2] * 65, 640),
+            (b"R" * 4097, [4096, 4097], 640),
+            (b"SR", [2, 1], 640),
+            (b"SR", [1, 3], 640),
+            (b"Sx", [1, 2], 640),
+            (b"SR" * 41, [0, 82], 640),
+            (b"SR" * 161, [80, 160, 240, 320, 322], 640),
+            (b"SR", [1, 2], 639),
+            (b"SR", [1, 2], 0),
+        ):
+            for number in (0, 1, 128, 129):
+                self.assertEqual(self.part(number, letters, ends, inverse_room), (0, 0, 0))
+
+
 class Questions(Asking):
     def test_words(self):
         for call, factor in ((model.reduced, 1), (model.inverted, 2)):
@@ -327,6 +474,34 @@ class Questions(Asking):
         self.assert_refused(9, 2, model.list_reachable, b"RSX", [1, 2], b"X", (0, 0))
         self.assert_refused(7, 0, model.list_reachable, b"RSX", [1] * 65, b"X", (0, 0))
         self.assertTrue(model.list_reachable(b"RSS", [2, 3], b"R", (36, 36)))
+
+    def test_subgroup_verdict(self):
+        def asked(generators, target, n=1001, tables=(0, 0), room=0, inverse_room=0):
+            return model.subgroup_verdict(generators, target, n, tables, room, inverse_room)
+
+        long = b"RSS" * 27
+        self.assert_refused(7, 0, asked, [b"X"] * 65, b"X" * 4097)
+        self.assert_refused(8, 0, asked, [b"X" * 4096, b"X"], b"X")
+        self.assert_refused(8, 0, asked, [b"X"], b"X" * 4097)
+        self.assert_refused(10, 82, asked, [long, b"S"], b"X")
+        self.assert_refused(11, 1, asked, [b"", long], long)
+        self.assert_refused(11, 4, asked, [b"SR" * 40] * 4 + [b"S"], long)
+        self.assert_refused(12, 0, asked, [b"SR"], long)
+        self.assert_refused(13, 0, asked, [b"SR"], b"R")
+        self.assert_refused(14, 0, asked, [b"SR"], b"SRSR", 1000, (0, 0), 999, 640)
+        self.assert_refused(14, 0, asked, [b"SR"], b"SRSR", 1000, (0, 0), 1000, 639)
+        self.assert_refused(14, 0, asked, [], b"", 0, (1, 1), 0, 639)
+        # the inverse counts: q is 2 + 3 + 8 + 1
+        self.assert_refused(15, 0, asked, [b"SR"], b"SRSR", 3, (195, 196), 3, 640)
+        self.assert_refused(15, 0, asked, [b"SR"], b"SRSR", 3, (196, 195), 3, 640)
+        self.assertEqual(asked([b"SR"], b"SRSR", 3, (196, 196), 3, 640), [0, 0])
+        # the given generators alone are asked for by 7 and 11
+        self.assertEqual(asked([b"SRSRS"] * 64, b"SSRSSRSS", 1, (849**2, 849**2), 1, 640), [128])
+        self.assertEqual(asked([b"SR" * 40] * 4, b"SR" * 40, 1, (961**2, 961**2), 1, 640), [0])
+        self.assert_refused(9, 1, model.list_subgroup_verdict, b"RSX", [2, 1, 3], b"X", 1001, (0, 0), 0, 0)
+        self.assert_refused(9, 2, model.list_subgroup_verdict, b"RSX", [1, 2], b"X", 1001, (0, 0), 0, 0)
+        self.assert_refused(7, 0, model.list_subgroup_verdict, b"RSX", [1] * 65, b"X", 1001, (0, 0), 0, 0)
+        self.assertEqual(model.list_subgroup_verdict(b"RSS", [2, 3], b"R", 3, (121, 121), 3, 640), [0, 129])
 
     def test_cards(self):
         matrix = bytes([4]) + b"".join(entry.to_bytes(8, "little", signed=True) for entry in (1, 2**31, 2**31, 1))

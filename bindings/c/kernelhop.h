@@ -23,8 +23,8 @@ extern "C" {
 #endif
 
 /* number 0: an answer, and value says which (below, at each call).
-   number KERNELHOP_NONE: only from three calls. From kernelhop_judge and kernelhop_answer_card: no product of at most n factors is the target; value is
-   n. From kernelhop_reachable: no product is the target, of however many factors; value is 0.
+   number KERNELHOP_NONE: only from four calls. From kernelhop_judge, kernelhop_judge_subgroup and kernelhop_answer_card: no product of at most n factors
+   is the target; value is n. From kernelhop_reachable: no product is the target, of however many factors; value is 0.
    number 1 to 16: refused by that question; value is the place that it names, or 0. */
 struct kernelhop_outcome {
     uint8_t number;
@@ -35,11 +35,14 @@ enum {
     KERNELHOP_NONE = 255,
     KERNELHOP_FORM = 80, /* room for the normal form of a matrix */
     KERNELHOP_SIDE = 481, /* the largest q of a verdict that questions 11 and 12 let pass */
+    KERNELHOP_SIGNED_SIDE = 993, /* the same of kernelhop_judge_subgroup, whose q counts the inverses as well */
     KERNELHOP_BOUND = 1000, /* the largest n that question 13 lets pass */
+    KERNELHOP_INVERSE = 128, /* the number of an inverse factor is this and the generator's */
+    KERNELHOP_INVERSES = 640, /* room for the normal forms of a list's inverses, by question 14; no list has more than 512 letters of them */
     KERNELHOP_STACK = 131072
 };
 
-/* The release that is linked: 10,000 times its major number, 100 times its minor one, and its patch number. So release 1.3.0 is 10300, and a later
+/* The release that is linked: 10,000 times its major number, 100 times its minor one, and its patch number. So release 1.4.0 is 10400, and a later
    release has a larger number. */
 uint32_t kernelhop_version(void);
 
@@ -88,6 +91,37 @@ struct kernelhop_outcome kernelhop_judge(const uint8_t *bytes, size_t bytes_len,
    Asks: 7 to 12 as kernelhop_judge does; 15, first_len and second_len at least q * q. */
 struct kernelhop_outcome kernelhop_reachable(const uint8_t *bytes, size_t bytes_len, const uint16_t *ends, size_t ends_len, const uint8_t *target,
                                              size_t target_len, uint16_t *first, size_t first_len, uint16_t *second, size_t second_len);
+
+/* Is the target a product of at most n factors, each of them a generator or the inverse of one? So a list is taken as the subgroup that it generates,
+   and no inverse has to be typed. The list is as for kernelhop_judge. Factor i is generator i, and factor KERNELHOP_INVERSE + i its inverse; each counts
+   as one factor.
+   A member: value is k, the least number of factors, and the first k bytes of `witness` are the numbers of such factors, whose words, written one behind
+   the other, equal the target by the two rules: of the series of that count the first when their numbers are compared from left to right, so that every
+   generator stands before every inverse. The rest of `witness` remains; for none all of it.
+   After a member or none the front of `inverses` is the normal forms of the generators' inverses, one behind the other, and its rest remains;
+   kernelhop_letters_of says where each of them stands. The tables are as after kernelhop_judge, but m is the sum of the lengths of the generators' normal
+   forms and of those of their inverses, which may be longer, as SS is for S: KERNELHOP_SIGNED_SIDE * KERNELHOP_SIGNED_SIDE entries are enough for every
+   list.
+   Asks: 7 to 13 as kernelhop_judge does, of the generators as they are given, without their inverses; 14, witness_len at least n and inverses_len at least
+   KERNELHOP_INVERSES; 15, first_len and second_len at least q * q. */
+struct kernelhop_outcome kernelhop_judge_subgroup(const uint8_t *bytes, size_t bytes_len, const uint16_t *ends, size_t ends_len, const uint8_t *target,
+                                                  size_t target_len, uint16_t n, uint16_t *first, size_t first_len, uint16_t *second,
+                                                  size_t second_len, uint8_t *witness, size_t witness_len, uint8_t *inverses, size_t inverses_len);
+
+/* The letters from `start` up to `end`: of the given slice where `inverse` is 0, and of the inverse slice where it is 1. */
+struct kernelhop_part {
+    uint8_t inverse;
+    uint16_t start;
+    uint16_t end;
+};
+
+/* Where the letters of a factor stand, by its number as kernelhop_judge_subgroup writes it: those of generator i, as they are given, in `bytes`, and those
+   of its inverse, in normal form, in `inverses`, as long as this holds what that call wrote for the list. Which part it is follows from the list alone,
+   whatever `inverses` holds.
+   Asks: 7 to 11 as kernelhop_judge does, of the list; 14, inverses_len at least KERNELHOP_INVERSES, for every number. No question's number is told: where
+   one is answered no, or the number is that of no factor of the list, the part is the empty one at the start of `bytes`, and all its fields are 0. */
+struct kernelhop_part kernelhop_letters_of(const uint8_t *bytes, size_t bytes_len, const uint16_t *ends, size_t ends_len, const uint8_t *inverses,
+                                           size_t inverses_len, uint8_t number);
 
 /* What kernelhop_judge says of the list, the target and n that a query card says; the program `verdict` prints its answer as a line. 16-bit numbers and
    matrix entries have the low byte first. A matrix as the target is its normal form.

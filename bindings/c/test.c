@@ -41,7 +41,7 @@ static struct kernelhop_outcome word_to_matrix(const char *word, int64_t out[4])
 }
 
 static void version(void) {
-    CHECK(kernelhop_version() >= 10300);
+    CHECK(kernelhop_version() >= 10400);
 }
 
 static void words(void) {
@@ -160,10 +160,10 @@ static void verdicts(void) {
     free(second);
 }
 
-/* Tables that are large enough for every list. */
-enum { LARGEST = KERNELHOP_SIDE * KERNELHOP_SIDE };
-static uint16_t largest_first[LARGEST];
-static uint16_t largest_second[LARGEST];
+/* Tables that are large enough for every list, and for every list with its inverses. */
+enum { LARGEST = KERNELHOP_SIDE * KERNELHOP_SIDE, SIGNED_LARGEST = KERNELHOP_SIGNED_SIDE * KERNELHOP_SIGNED_SIDE };
+static uint16_t largest_first[SIGNED_LARGEST];
+static uint16_t largest_second[SIGNED_LARGEST];
 
 /* The words in a row, with their ends. */
 static size_t join(const char *const *words, size_t count, uint8_t *bytes, uint16_t *ends) {
@@ -326,6 +326,262 @@ static void tables_without_a_bound(void) {
     }
 }
 
+/* A list as it is lent, and what a verdict on it as a subgroup writes: the witness and the inverse slice, all 9 and all 'x' before a call. */
+static uint8_t given[8192];
+static uint16_t given_ends[65];
+static size_t given_len;
+static size_t given_count;
+static uint8_t signed_witness[KERNELHOP_BOUND];
+static uint8_t inverses[KERNELHOP_INVERSES + 1];
+
+static void give(const char *const *words, size_t count) {
+    given_len = join(words, count, given, given_ends);
+    given_count = count;
+    memset(signed_witness, 9, sizeof signed_witness);
+    memset(inverses, 'x', sizeof inverses);
+}
+
+static struct kernelhop_outcome in_subgroup(const char *target, uint16_t n) {
+    return kernelhop_judge_subgroup(given, given_len, given_ends, given_count, (const uint8_t *)target, strlen(target), n, largest_first,
+                                    SIGNED_LARGEST, largest_second, SIGNED_LARGEST, signed_witness, sizeof signed_witness, inverses, sizeof inverses);
+}
+
+/* The front of the inverse slice is these letters, and the rest is as it was. */
+static int inverses_are(const char *letters) {
+    size_t len = strlen(letters);
+    for (size_t i = len; i < sizeof inverses; i++) {
+        if (inverses[i] != 'x') {
+            return 0;
+        }
+    }
+    return memcmp(inverses, letters, len) == 0;
+}
+
+static int bytes_are(const uint8_t *bytes, size_t from, size_t to, uint8_t value) {
+    for (size_t i = from; i < to; i++) {
+        if (bytes[i] != value) {
+            return 0;
+        }
+    }
+    return 1;
+}
+
+/* Is the target a member of the subgroup by just these factors, with n 1,000, and are the inverses these? */
+static int member_of_subgroup(const char *target, const uint8_t *factors, size_t factors_len, const char *letters) {
+    return is(in_subgroup(target, KERNELHOP_BOUND), 0, factors_len) && memcmp(signed_witness, factors, factors_len) == 0 &&
+           bytes_are(signed_witness, factors_len, sizeof signed_witness, 9) && inverses_are(letters);
+}
+
+static int part_is(uint8_t number, int inverse, size_t start, size_t end) {
+    struct kernelhop_part part = kernelhop_letters_of(given, given_len, given_ends, given_count, inverses, sizeof inverses, number);
+    return part.inverse == inverse && part.start == start && part.end == end;
+}
+
+enum { INVERSE = KERNELHOP_INVERSE };
+
+static void subgroups(void) {
+    give((const char *[]){"SR"}, 1);
+    CHECK(member_of_subgroup("SRSRSR", (const uint8_t[]){0, 0, 0}, 3, "RSS"));
+    give((const char *[]){"SR"}, 1);
+    CHECK(member_of_subgroup("RSSRSS", (const uint8_t[]){INVERSE, INVERSE}, 2, "RSS"));
+    give((const char *[]){"SR"}, 1);
+    CHECK(is(in_subgroup("R", KERNELHOP_BOUND), KERNELHOP_NONE, KERNELHOP_BOUND));
+    CHECK(bytes_are(signed_witness, 0, sizeof signed_witness, 9) && inverses_are("RSS"));
+    /* T times U to the -1st is SRRS. */
+    give((const char *[]){"SR", "SSR"}, 2);
+    CHECK(member_of_subgroup("SS", (const uint8_t[]){0, INVERSE + 1}, 2, "RSSRS"));
+    /* R is its own inverse; of the two numbers the lower is written. */
+    give((const char *[]){"R"}, 1);
+    CHECK(member_of_subgroup("R", (const uint8_t[]){0}, 1, "R"));
+    /* A generator stands before every inverse, also one of a lower number. */
+    give((const char *[]){"S", "SS"}, 2);
+    CHECK(member_of_subgroup("SS", (const uint8_t[]){1}, 1, "SSS"));
+    give((const char *[]){"S"}, 1);
+    CHECK(member_of_subgroup("SS", (const uint8_t[]){INVERSE}, 1, "SS"));
+    /* Equal generators, as written and by the rules, and empty ones. */
+    give((const char *[]){"RS", "SR", "SRRR"}, 3);
+    CHECK(member_of_subgroup("RSSRSS", (const uint8_t[]){INVERSE + 1, INVERSE + 1}, 2, "SSRRSSRSS"));
+    give((const char *[]){"", "S", "RR", "S", ""}, 5);
+    CHECK(member_of_subgroup("SS", (const uint8_t[]){INVERSE + 1}, 1, "SSSS"));
+    /* A list without generators, and a bound of 0. */
+    give(NULL, 0);
+    CHECK(member_of_subgroup("RSSSR", NULL, 0, ""));
+    CHECK(is(in_subgroup("R", KERNELHOP_BOUND), KERNELHOP_NONE, KERNELHOP_BOUND) && inverses_are(""));
+    give((const char *[]){"SR", "S"}, 2);
+    CHECK(is(in_subgroup("SR", 0), KERNELHOP_NONE, 0) && inverses_are("RSSSS") && signed_witness[0] == 9);
+    give((const char *[]){"SR", "S"}, 2);
+    CHECK(is(in_subgroup("SSS", 0), 0, 0) && inverses_are("RSSSS") && signed_witness[0] == 9);
+}
+
+/* Generators S, SR, T to the 40th, nothing, and SRR: what is given is shown as it is given, and an inverse in its normal form. */
+static void letters_of_factors(void) {
+    char longest[81];
+    repeat(longest, "SR", 40);
+    char inverse_letters[128] = "SSRSS";
+    repeat(repeat(inverse_letters + 5, "RSS", 40), "SS", 1);
+    give((const char *[]){"S", "SR", longest, "", "SRR"}, 5);
+    CHECK(is(in_subgroup("RSS", 1), 0, 1) && signed_witness[0] == INVERSE + 1 && inverses_are(inverse_letters));
+    CHECK(part_is(0, 0, 0, 1));
+    CHECK(part_is(1, 0, 1, 3));
+    CHECK(part_is(2, 0, 3, 83));
+    CHECK(part_is(3, 0, 83, 83));
+    CHECK(part_is(4, 0, 83, 86));
+    CHECK(part_is(INVERSE, 1, 0, 2));
+    CHECK(part_is(INVERSE + 1, 1, 2, 5));
+    CHECK(part_is(INVERSE + 2, 1, 5, 125));
+    CHECK(part_is(INVERSE + 3, 1, 125, 125));
+    CHECK(part_is(INVERSE + 4, 1, 125, 127));
+    /* Numbers that are no factor's. */
+    CHECK(part_is(5, 0, 0, 0) && part_is(63, 0, 0, 0) && part_is(64, 0, 0, 0) && part_is(127, 0, 0, 0));
+    CHECK(part_is(INVERSE + 5, 0, 0, 0) && part_is(INVERSE + 64, 0, 0, 0) && part_is(255, 0, 0, 0));
+    /* The part follows from the list alone. */
+    memset(inverses, 'x', sizeof inverses);
+    CHECK(part_is(INVERSE + 2, 1, 5, 125) && inverses_are(""));
+    give(NULL, 0);
+    CHECK(part_is(0, 0, 0, 0) && part_is(INVERSE, 0, 0, 0));
+}
+
+/* No question's number is told: the part is empty. */
+static int no_part(const char *letters, size_t len, const uint16_t *ends, size_t count, size_t room) {
+    const uint8_t numbers[] = {0, 1, INVERSE, INVERSE + 1};
+    for (size_t i = 0; i < sizeof numbers; i++) {
+        struct kernelhop_part part = kernelhop_letters_of((const uint8_t *)letters, len, ends, count, inverses, room, numbers[i]);
+        if (part.inverse != 0 || part.start != 0 || part.end != 0) {
+            return 0;
+        }
+    }
+    return 1;
+}
+
+static void letters_of_refused_lists(void) {
+    static char letters[4098];
+    repeat(letters, "R", 4097);
+    char too_long[83];
+    repeat(too_long, "SR", 41);
+    uint16_t many[65];
+    for (size_t i = 0; i < 65; i++) {
+        many[i] = 2;
+    }
+    const uint16_t two[] = {1, 2};
+    give((const char *[]){"S", "R"}, 2);
+    CHECK(part_is(1, 0, 1, 2) && part_is(INVERSE + 1, 1, 2, 3));
+    CHECK(no_part("SR", 2, many, 65, KERNELHOP_INVERSES));
+    CHECK(no_part(letters, 4097, (const uint16_t[]){4096, 4097}, 2, KERNELHOP_INVERSES));
+    CHECK(no_part("SR", 2, (const uint16_t[]){2, 1}, 2, KERNELHOP_INVERSES));
+    CHECK(no_part("SR", 1, two, 2, KERNELHOP_INVERSES));
+    CHECK(no_part("Sx", 2, two, 2, KERNELHOP_INVERSES));
+    CHECK(no_part(too_long, 82, (const uint16_t[]){0, 82}, 2, KERNELHOP_INVERSES));
+    CHECK(no_part("SR", 2, two, 2, KERNELHOP_INVERSES - 1));
+    CHECK(no_part("SR", 2, two, 2, 0));
+    struct kernelhop_part part = kernelhop_letters_of((const uint8_t *)"SR", 2, two, 2, NULL, 0, 1);
+    CHECK(part.inverse == 0 && part.start == 0 && part.end == 0);
+    part = kernelhop_letters_of(NULL, 0, NULL, 0, NULL, 0, 0);
+    CHECK(part.inverse == 0 && part.start == 0 && part.end == 0);
+}
+
+/* 64 generators SRSRS, which have 320 letters and their inverses 512, and a target of 80: no call needs larger tables. */
+static void largest_signed_tables(void) {
+    const char *words[64];
+    static char letters[513];
+    for (size_t i = 0; i < 64; i++) {
+        words[i] = "SRSRS";
+    }
+    repeat(letters, "SSRSSRSS", 64);
+    char target[81];
+    repeat(target, "SR", 40);
+    give(words, 64);
+    const uint8_t *wanted = (const uint8_t *)target;
+    memset(largest_first, 255, sizeof largest_first);
+    memset(largest_second, 255, sizeof largest_second);
+    CHECK(is(kernelhop_judge_subgroup(given, 320, given_ends, 64, wanted, 80, KERNELHOP_BOUND, largest_first, SIGNED_LARGEST - 1, largest_second,
+                                      SIGNED_LARGEST, signed_witness, sizeof signed_witness, inverses, sizeof inverses),
+             15, 0));
+    CHECK(is(kernelhop_judge_subgroup(given, 320, given_ends, 64, wanted, 80, KERNELHOP_BOUND, largest_first, SIGNED_LARGEST, largest_second,
+                                      SIGNED_LARGEST - 1, signed_witness, sizeof signed_witness, inverses, sizeof inverses),
+             15, 0));
+    CHECK(all_are(largest_first, 0, SIGNED_LARGEST, 65535) && all_are(largest_second, 0, SIGNED_LARGEST, 65535) && inverses_are(""));
+    CHECK(is(in_subgroup(target, KERNELHOP_BOUND), KERNELHOP_NONE, KERNELHOP_BOUND));
+    CHECK(all_are(largest_first, 0, SIGNED_LARGEST, 0) && all_are(largest_second, 0, SIGNED_LARGEST, 0) && inverses_are(letters));
+    CHECK(member_of_subgroup("SSRSSRSS", (const uint8_t[]){INVERSE}, 1, letters));
+    CHECK(part_is(63, 0, 315, 320) && part_is(INVERSE + 63, 1, 504, 512));
+    CHECK(part_is(64, 0, 0, 0) && part_is(127, 0, 0, 0) && part_is(INVERSE + 64, 0, 0, 0) && part_is(255, 0, 0, 0));
+}
+
+/* Each question of the verdict on a subgroup, with its place. Those about the list look at the given generators only. */
+static void refused_subgroups(void) {
+    const char *many[65];
+    for (size_t i = 0; i < 65; i++) {
+        many[i] = "R";
+    }
+    static char letters[4098];
+    repeat(letters, "R", 4097);
+    char longest[81];
+    char too_long[83];
+    repeat(longest, "SR", 40);
+    repeat(too_long, "SR", 41);
+    memset(largest_first, 255, sizeof largest_first);
+    memset(largest_second, 255, sizeof largest_second);
+
+    give(many, 65);
+    CHECK(is(in_subgroup("x", 1001), 7, 0));
+    give((const char *[]){letters}, 1);
+    CHECK(is(in_subgroup("x", 1001), 8, 0));
+    give((const char *[]){"x"}, 1);
+    CHECK(is(in_subgroup(letters, 1001), 8, 0));
+    given_ends[0] = 2;
+    CHECK(is(in_subgroup("x", 1001), 9, 1));
+    give((const char *[]){too_long, "Sx"}, 2);
+    CHECK(is(in_subgroup("x", 1001), 10, 83));
+    given[83] = 'S';
+    CHECK(is(in_subgroup("Rx", 1001), 10, 85));
+    give((const char *[]){"R", too_long}, 2);
+    CHECK(is(in_subgroup(too_long, 1001), 11, 1));
+    give((const char *[]){longest, longest, longest, longest, "S"}, 5);
+    CHECK(is(in_subgroup(too_long, 1001), 11, 4));
+    give((const char *[]){"SR"}, 1);
+    CHECK(is(in_subgroup(too_long, 1001), 12, 0));
+    CHECK(is(in_subgroup(longest, 1001), 13, 0));
+    CHECK(all_are(largest_first, 0, SIGNED_LARGEST, 65535) && all_are(largest_second, 0, SIGNED_LARGEST, 65535));
+    CHECK(bytes_are(signed_witness, 0, sizeof signed_witness, 9) && inverses_are(""));
+
+    /* Four inverses of 120 letters each are no question's matter. */
+    give((const char *[]){longest, longest, longest, longest}, 4);
+    CHECK(is(in_subgroup(longest, 1000), 0, 1) && signed_witness[0] == 0 && inverses[479] == 'S' && inverses[480] == 'x');
+}
+
+/* List SR: its inverse is RSS, so with target SRSR q is 2 + 3 + 8 + 1 = 14. Each slice has an entry more than it must, which remains. */
+static void lent_for_a_subgroup(void) {
+    const uint8_t *bytes = (const uint8_t *)"SR";
+    const uint8_t *target = (const uint8_t *)"SRSR";
+    const uint16_t ends[] = {2};
+    uint16_t first[197];
+    uint16_t second[197];
+    memset(first, 255, sizeof first);
+    memset(second, 255, sizeof second);
+    memset(signed_witness, 9, sizeof signed_witness);
+    memset(inverses, 'x', sizeof inverses);
+    const size_t room = KERNELHOP_INVERSES;
+    CHECK(is(kernelhop_judge_subgroup(bytes, 2, ends, 1, target, 4, 3, first, 0, second, 0, signed_witness, 2, inverses, room), 14, 0));
+    CHECK(is(kernelhop_judge_subgroup(bytes, 2, ends, 1, target, 4, 3, first, 0, second, 0, signed_witness, 3, inverses, room - 1), 14, 0));
+    CHECK(is(kernelhop_judge_subgroup(bytes, 2, ends, 1, target, 4, 0, first, 0, second, 0, NULL, 0, NULL, 0), 14, 0));
+    CHECK(is(kernelhop_judge_subgroup(bytes, 2, ends, 1, target, 4, 3, first, 195, second, 196, signed_witness, 3, inverses, room), 15, 0));
+    CHECK(is(kernelhop_judge_subgroup(bytes, 2, ends, 1, target, 4, 3, first, 196, second, 195, signed_witness, 3, inverses, room), 15, 0));
+    CHECK(all_are(first, 0, 197, 65535) && all_are(second, 0, 197, 65535) && signed_witness[0] == 9 && inverses_are(""));
+    CHECK(is(kernelhop_judge_subgroup(bytes, 2, ends, 1, target, 4, 3, first, 196, second, 197, signed_witness, 3, inverses, room), 0, 2));
+    CHECK(all_are(first, 0, 196, 0) && first[196] == 65535);
+    CHECK(all_are(second, 0, 196, 0) && second[196] == 65535);
+    CHECK(signed_witness[0] == 0 && signed_witness[1] == 0 && signed_witness[2] == 9 && inverses_are("RSS"));
+    /* None, of n 1. */
+    memset(first, 255, sizeof first);
+    memset(inverses, 'x', sizeof inverses);
+    CHECK(is(kernelhop_judge_subgroup(bytes, 2, ends, 1, target, 4, 1, first, 197, second, 196, signed_witness, 1, inverses, room), KERNELHOP_NONE, 1));
+    CHECK(all_are(first, 0, 196, 0) && first[196] == 65535 && inverses_are("RSS"));
+    /* An empty list and an empty target: q is 1. */
+    CHECK(is(kernelhop_judge_subgroup(NULL, 0, NULL, 0, NULL, 0, 0, first, 1, second, 1, NULL, 0, inverses, room), 0, 0));
+    CHECK(is(kernelhop_judge_subgroup(NULL, 0, NULL, 0, NULL, 0, 0, NULL, 0, NULL, 0, NULL, 0, inverses, room), 15, 0));
+    CHECK(is(kernelhop_judge_subgroup(NULL, 0, NULL, 0, NULL, 0, 0, first, 1, second, 1, NULL, 0, NULL, 0), 14, 0));
+}
+
 static void cards(void) {
     const uint8_t card[] = {0x0B, 3, 0, 6, 0, 'S', 'R', 'S', 'R', 'S', 'R', 1, 2, 0, 'S', 'R'};
     uint16_t first[225] = {0};
@@ -351,6 +607,12 @@ static void *all(void *nothing) {
     beyond_every_bound();
     refused_without_a_bound();
     tables_without_a_bound();
+    subgroups();
+    letters_of_factors();
+    letters_of_refused_lists();
+    largest_signed_tables();
+    refused_subgroups();
+    lent_for_a_subgroup();
     cards();
     return nothing;
 }

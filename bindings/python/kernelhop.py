@@ -10,12 +10,15 @@ Refused.
     NoMember(n=2)
     >>> kernelhop.reachable(["RSRS", "S", "SRSS"], "R"), kernelhop.reachable(["SR"], "R")
     (True, False)
+    >>> kernelhop.subgroup_verdict(["SR", "SSR"], "SS")
+    <SubgroupMember by 0 1^-1>
     >>> kernelhop.reduce("SRT")
     Traceback (most recent call last):
     kernelhop.Refused: refused by question 10, place 2: a letter is not R or S
 
 `bindings/python/build` makes the shared library. It is looked for in the folder that KERNELHOP_LIB_DIR names, or else beside this file and in the
-repository's target/python. A thread makes the tables of its verdicts at the first of them and keeps them until it ends: up to 926,444 bytes a thread.
+repository's target/python. A thread makes the tables of its verdicts at the first of them and keeps them until it ends: up to 926,444 bytes a thread, and
+3,945,196 once it has asked for a verdict on a subgroup.
 """
 
 import ctypes
@@ -24,10 +27,26 @@ import os
 import threading
 from array import array
 from collections.abc import Collection, Mapping, MappingView, Sequence, Set
-from dataclasses import dataclass
+from dataclasses import dataclass, field
 from itertools import accumulate
+from typing import NamedTuple
 
-__all__ = ["Member", "NoMember", "Refused", "answer_card", "invert", "is_normal", "matrix", "reachable", "reduce", "verdict", "word"]
+__all__ = [
+    "Member",
+    "NoMember",
+    "Refused",
+    "SignedFactor",
+    "SubgroupMember",
+    "answer_card",
+    "invert",
+    "is_normal",
+    "matrix",
+    "reachable",
+    "reduce",
+    "subgroup_verdict",
+    "verdict",
+    "word",
+]
 
 # What a no to each question says, question 1 first. The Rust package has the same texts.
 TEXTS = (
@@ -57,6 +76,15 @@ FORM = 80
 
 # The largest q that questions 11 and 12 let pass: 320 letters in the generators' normal forms, and 80 in the target's.
 LARGEST_SIDE = 320 + 2 * 80 + 1
+
+# The same with the inverses of the generators, which have at most 512 letters: half as many again as the generators, and half a letter more for each of 64.
+LARGEST_SIGNED_SIDE = LARGEST_SIDE + 512
+
+# The bytes that an inverse slice must have (question 14).
+INVERSES = 640
+
+# The number of an inverse factor is this and its generator's.
+INVERSE = 128
 
 # The largest n that question 13 lets pass.
 LARGEST_BOUND = 1000
@@ -93,9 +121,69 @@ class Member:
         return len(self.factors)
 
 
+class SignedFactor(NamedTuple):
+    """A generator, by its number from 0, and the sign 1, or the inverse of one, and the sign -1. As text it is the number, and `^-1` behind it for the
+    inverse."""
+
+    generator: int
+    sign: int = 1
+
+    @classmethod
+    def from_written(cls, number):
+        """The factor that the library writes as this number: 128 is added to the generator's for its inverse."""
+        number = operator.index(number)
+        if not 0 <= number < 2 * INVERSE:
+            raise ValueError(f"a factor is written as a number from 0 to 255, and not {number}")
+        return cls(number % INVERSE, 1 if number < INVERSE else -1)
+
+    @property
+    def written(self):
+        """The number that the library writes for it."""
+        if not 0 <= self.generator < INVERSE or self.sign not in (1, -1):
+            raise ValueError(f"no factor: {self!r}; a generator is a number from 0 to 127, and a sign is 1 or -1")
+        return self.generator if self.sign == 1 else INVERSE + self.generator
+
+    def __str__(self):
+        return f"{self.generator}" if self.sign == 1 else f"{self.generator}^-1"
+
+
+@dataclass(frozen=True, repr=False)
+class SubgroupMember:
+    """The target is the product of these signed factors, and of no fewer: of the series of that count the first when their numbers, as they are written, are
+    compared from left to right, so that every generator stands before every inverse. As text it is the factors."""
+
+    factors: tuple
+    # The list as it was lent, and the inverse slice that its verdict wrote.
+    _lent: tuple = field(compare=False)
+
+    @property
+    def count(self):
+        return len(self.factors)
+
+    @property
+    def written(self):
+        """The factors as the library writes them, a byte each."""
+        return bytes(factor.written for factor in self.factors)
+
+    def letters(self, factor):
+        """The letters of a factor, which is a SignedFactor or the number that is written for it: a generator's as they were given, and an inverse's in normal
+        form. No letters for a factor that the list does not have."""
+        if not isinstance(factor, SignedFactor):
+            factor = SignedFactor.from_written(factor)
+        letters, ends, inverses = self._lent
+        part = _letters_of(letters, len(letters), ends.buffer_info()[0], len(ends), inverses, len(inverses), factor.written)
+        return (inverses if part.inverse else letters)[part.start : part.end].decode("ascii")
+
+    def __str__(self):
+        return " ".join(map(str, self.factors)) or "no factors"
+
+    def __repr__(self):
+        return f"<SubgroupMember by {self}>"
+
+
 @dataclass(frozen=True)
 class NoMember:
-    """No product of at most n generators is the target. It counts as false."""
+    """No product of at most n factors is the target. It counts as false."""
 
     n: int
 
@@ -144,13 +232,24 @@ def verdict(generators, target, n=LARGEST_BOUND):
     """
     letters, ends = _list(generators)
     target = _letters(target)
-    n = operator.index(n)
-    if not 0 <= n <= LARGEST_SHORT:
-        if n < 0:
-            raise ValueError(f"n is negative: {n}")
-        # What does not fit in 16 bits is cut down, which question 13 refuses alike.
-        n = LARGEST_SHORT
-    return _judged(_judge, letters, len(letters), ends.buffer_info()[0], len(ends), target, len(target), n)
+    return _judged(_judge, letters, len(letters), ends.buffer_info()[0], len(ends), target, len(target), _bound(n))
+
+
+def subgroup_verdict(generators, target, n=LARGEST_BOUND):
+    """Is the target a product of at most n factors, each of them a generator or the inverse of one? A SubgroupMember, or NoMember. Asks questions 7 to 13,
+    those about the list of the given generators only.
+
+    So the list is taken as the subgroup that it generates, and no inverse has to be typed; each factor counts as one. The generators are as `verdict` takes
+    them.
+    """
+    letters, ends = _list(generators)
+    target = _letters(target)
+    inverses = (ctypes.c_uint8 * INVERSES)()
+    inputs = letters, len(letters), ends.buffer_info()[0], len(ends), target, len(target), _bound(n)
+    found = _judged(_judge_subgroup, *inputs, side=LARGEST_SIGNED_SIDE, behind=(inverses, INVERSES))
+    if not found:
+        return found
+    return SubgroupMember(tuple(map(SignedFactor.from_written, found.factors)), (letters, ends, bytes(inverses)))
 
 
 def reachable(generators, target):
@@ -172,6 +271,10 @@ def answer_card(card):
 
 class _Outcome(ctypes.Structure):
     _fields_ = [("number", ctypes.c_uint8), ("value", ctypes.c_size_t)]
+
+
+class _Part(ctypes.Structure):
+    _fields_ = [("inverse", ctypes.c_uint8), ("start", ctypes.c_uint16), ("end", ctypes.c_uint16)]
 
 
 # A slice that is lent is a pointer and a length. What is only read may be a bytes object; what is written is an array of its own, so no two overlap.
@@ -212,6 +315,8 @@ _word_to_matrix = _call("word_to_matrix", *_READ, ctypes.POINTER(ctypes.c_int64 
 _matrix_to_word = _call("matrix_to_word", *[ctypes.c_int64] * 4, *_LENT)
 _judge = _call("judge", *_READ, *_LENT, *_READ, ctypes.c_uint16, *_LENT * 3)
 _reachable = _call("reachable", *_READ, *_LENT, *_READ, *_LENT * 2)
+_judge_subgroup = _call("judge_subgroup", *_READ, *_LENT, *_READ, ctypes.c_uint16, *_LENT * 4)
+_letters_of = _call("letters_of", *_READ, *_LENT, *_READ, ctypes.c_uint8, result=_Part)
 _answer_card = _call("answer_card", *_READ, *_LENT * 3)
 
 __version__ = f"{_release // 10000}.{_release // 100 % 100}.{_release % 100}"
@@ -260,6 +365,16 @@ def _list(generators):
     return letters.encode("ascii", "replace"), array("H", ends)
 
 
+def _bound(n):
+    n = operator.index(n)
+    if not 0 <= n <= LARGEST_SHORT:
+        if n < 0:
+            raise ValueError(f"n is negative: {n}")
+        # What does not fit in 16 bits is cut down, which question 13 refuses alike.
+        n = LARGEST_SHORT
+    return n
+
+
 def _value(outcome):
     if outcome.number != 0:
         raise Refused(outcome.number, outcome.value)
@@ -274,10 +389,11 @@ def _written(call, *inputs, room):
 
 class _Room:
     """What verdicts are worked out in. A verdict takes tables with anything in them, so nothing is cleared between two; and these are as large as the questions
-    let one ask for, so nothing has to be known of a list before it is judged."""
+    let one ask for, so nothing has to be known of a list before it is judged. Who never asks for a verdict on a subgroup keeps the smaller ones."""
 
-    def __init__(self):
-        table = ctypes.c_uint16 * (LARGEST_SIDE * LARGEST_SIDE)
+    def __init__(self, side):
+        self.side = side
+        table = ctypes.c_uint16 * (side * side)
         first, second, self.witness = table(), table(), (ctypes.c_uint8 * LARGEST_BOUND)()
         self.tables = first, len(first), second, len(second)
         self.lent = *self.tables, self.witness, len(self.witness)
@@ -292,11 +408,17 @@ class _Kept(threading.local):
 _KEPT = _Kept()
 
 
-def _judged(call, *inputs):
+def _room(side):
+    """The room that this thread keeps, or a new one where it has none, or one with smaller tables."""
+    room = _KEPT.room
+    return room if room and room.side >= side else _Room(side)
+
+
+def _judged(call, *inputs, side=LARGEST_SIDE, behind=()):
     # The room is taken out until the factors are read: a signal's handler may ask for a verdict in between, and makes its own.
-    room = _KEPT.room or _Room()
+    room = _room(side)
     _KEPT.room = None
-    outcome = call(*inputs, *room.lent)
+    outcome = call(*inputs, *room.lent, *behind)
     number, value = outcome.number, outcome.value
     factors = tuple(room.witness[:value]) if number == 0 else None
     _KEPT.room = room
@@ -309,7 +431,7 @@ def _judged(call, *inputs):
 
 def _reached(*inputs):
     # Nothing is read from the tables afterwards, so the room stays where it is.
-    _KEPT.room = room = _KEPT.room or _Room()
+    _KEPT.room = room = _room(LARGEST_SIDE)
     outcome = _reachable(*inputs, *room.tables)
     if outcome.number == NONE:
         return False

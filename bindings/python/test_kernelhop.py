@@ -14,7 +14,21 @@ from array import array
 from unittest import mock
 
 import kernelhop
-from kernelhop import Member, NoMember, Refused, answer_card, invert, is_normal, matrix, reachable, reduce, verdict, word
+from kernelhop import (
+    Member,
+    NoMember,
+    Refused,
+    SignedFactor,
+    answer_card,
+    invert,
+    is_normal,
+    matrix,
+    reachable,
+    reduce,
+    subgroup_verdict,
+    verdict,
+    word,
+)
 
 HERE = os.path.dirname(os.path.abspath(__file__))
 RUST = os.path.join(HERE, "..", "rust", "src", "refusal.rs")
@@ -253,6 +267,163 @@ class WithoutABound(Case):
                 self.assertEqual((set(table[:225]), set(table[225:])), ({0}, {7}))
 
 
+class Subgroups(Case):
+    def test_worked(self):
+        for generators, target, factors in [
+            (["SR"], "SRSRSR", "0 0 0"),
+            (["SR"], "RSSRSS", "0^-1 0^-1"),
+            # T times U to the -1st is SRRS
+            (["SR", "SSR"], "SS", "0 1^-1"),
+            # R is its own inverse; of the two numbers the lower is written
+            (["R"], "R", "0"),
+            # a generator stands before every inverse, also one of a lower number
+            (["S", "SS"], "SS", "1"),
+            (["S"], "SS", "0^-1"),
+            # equal generators, as written and by the rules, and empty ones
+            (["RS", "SR", "SRRR"], "RSSRSS", "1^-1 1^-1"),
+            (["", "S", "RR", "S", ""], "SS", "1^-1"),
+            (iter(["SR"]), "RSS" * 26, " ".join(["0^-1"] * 26)),
+            # the product of no factors, also of a list that has none
+            (["SR"], "RSSSR", "no factors"),
+            ([], "", "no factors"),
+        ]:
+            found = subgroup_verdict(generators, target)
+            self.assertEqual(str(found), factors)
+            self.assertEqual(reduce("".join(map(found.letters, found.factors))), reduce(target))
+        self.assertEqual(subgroup_verdict(["SR"], "R"), NoMember(1000))
+        self.assertEqual(subgroup_verdict([], "R"), NoMember(1000))
+
+    def test_a_bound_of_0(self):
+        self.assertEqual(subgroup_verdict(["SR", "S"], "SR", 0), NoMember(0))
+        self.assertEqual(subgroup_verdict(["SR", "S"], "SSS", 0).factors, ())
+
+    def test_a_long_series(self):
+        """T to the 39th and to the 37th: 19 times 37 is 18 times 39 and 1 more. They may stand in any order."""
+        generators = ["SR" * 39, "SR" * 37]
+        self.assertEqual(subgroup_verdict(generators, "SR").written, bytes([1] * 19 + [128] * 18))
+        self.assertEqual(subgroup_verdict(generators, "RSS").written, bytes([0] * 18 + [129] * 19))
+        self.assertEqual(subgroup_verdict(generators, "SR", 36), NoMember(36))
+
+    def test_factors(self):
+        found = subgroup_verdict(["SR", "SSR"], "SS")
+        self.assertEqual(found.factors, (SignedFactor(0), SignedFactor(1, -1)))
+        self.assertEqual((found.count, found.written), (2, bytes([0, 129])))
+        self.assertEqual([(factor.generator, factor.sign) for factor in found.factors], [(0, 1), (1, -1)])
+        self.assertEqual(repr(found), "<SubgroupMember by 0 1^-1>")
+        self.assertEqual(found, pickle.loads(pickle.dumps(found)))
+        self.assertEqual([str(SignedFactor.from_written(number)) for number in (0, 127, 128, 255)], ["0", "127", "0^-1", "127^-1"])
+        for number in (-1, 256):
+            with self.assertRaisesRegex(ValueError, "from 0 to 255"):
+                SignedFactor.from_written(number)
+        for factor in (SignedFactor(128), SignedFactor(-1), SignedFactor(0, 0), SignedFactor(0, 2)):
+            with self.assertRaisesRegex(ValueError, "no factor"):
+                _ = factor.written
+
+    def test_truth(self):
+        self.assertTrue(subgroup_verdict([], "", 0))
+        self.assertFalse(subgroup_verdict([], "R", 0))
+
+    def test_letters(self):
+        """What is given is shown as it is given, and an inverse in its normal form."""
+        generators = ["S", "SR", "SR" * 40, "", "SRR"]
+        found = subgroup_verdict(generators, "RSS")
+        self.assertEqual(found.written, bytes([129]))
+        self.assertEqual([found.letters(SignedFactor(i)) for i in range(5)], generators)
+        self.assertEqual([found.letters(SignedFactor(i, -1)) for i in range(5)], ["SS", "RSS", "RSS" * 40, "", "SS"])
+        self.assertEqual([found.letters(number) for number in (0, 1, 128, 129)], ["S", "SR", "SS", "RSS"])
+        self.assertEqual({found.letters(number) for number in (5, 63, 64, 127, 133, 192, 255)}, {""})
+        with self.assertRaises(ValueError):
+            found.letters(256)
+        with self.assertRaises(TypeError):
+            found.letters("0")
+
+    def test_largest_tables(self):
+        """Inverses of 512 letters together, and of 120 letters each."""
+        found = subgroup_verdict(["SRSRS"] * 64, "SSRSSRSS")
+        self.assertEqual(str(found), "0^-1")
+        self.assertEqual((found.letters(63), found.letters(191)), ("SRSRS", "SSRSSRSS"))
+        self.assertEqual((found.letters(64), found.letters(127), found.letters(192)), ("", "", ""))
+        self.assertEqual(subgroup_verdict(["SRSRS"] * 64, "SR" * 40), NoMember(1000))
+        found = subgroup_verdict(["SR" * 40] * 4, "SR" * 40)
+        self.assertEqual(str(found), "0")
+        self.assertEqual(found.letters(131), "RSS" * 40)
+
+    def test_refused(self):
+        long = "SR" * 41
+        self.refused(7, 0, subgroup_verdict, ["x"] * 65, "x", 1001)
+        self.refused(8, 0, subgroup_verdict, ["R" * 70000, "S"], "x", 1001)
+        self.refused(8, 0, subgroup_verdict, ["x"], "R" * 4097, 1001)
+        self.refused(10, 3, subgroup_verdict, ["RS", "Sx"], long, 1001)
+        self.refused(10, 4, subgroup_verdict, ["RS", "S"], "Rx", 1001)
+        self.refused(11, 1, subgroup_verdict, ["R", long], long, 1001)
+        self.refused(11, 4, subgroup_verdict, ["SR" * 40] * 5, long, 1001)
+        self.refused(12, 0, subgroup_verdict, ["R"], long, 1001)
+        self.refused(13, 0, subgroup_verdict, ["R"], "R", 1001)
+        self.refused(13, 0, subgroup_verdict, ["R"], "R", 10**30)
+
+    def test_misuse(self):
+        for given, text in [("RS", "not one word"), (["R", 5], "each of them a str"), ({"R"}, "not set, whose order is not the caller's")]:
+            with self.assertRaisesRegex(TypeError, text):
+                subgroup_verdict(given, "R")
+        with self.assertRaisesRegex(TypeError, "a word is a str"):
+            subgroup_verdict(["R"], b"R")
+        with self.assertRaisesRegex(ValueError, "negative"):
+            subgroup_verdict(["R"], "R", -1)
+
+    def test_lent(self):
+        """List SR, whose inverse is RSS, with target SRSR: q is 2 + 3 + 8 + 1 = 14. A refusal changes nothing; a verdict leaves zeros in the front of both
+        tables, the inverse in that of its slice, and the rest as it was."""
+        ends = array("H", [2])
+
+        def lent():
+            return array("H", [7] * 197), array("H", [7] * 198), array("B", [9] * 4), array("B", b"x" * 641)
+
+        def asked(n, slices, lengths):
+            pairs = zip((part.buffer_info()[0] for part in slices), lengths)
+            flat = [number for pair in pairs for number in pair]
+            outcome = kernelhop._judge_subgroup(b"SR", 2, ends.buffer_info()[0], 1, b"SRSR", 4, n, *flat)
+            return outcome.number, outcome.value
+
+        slices = lent()
+        for lengths, number in [((0, 0, 2, 640), 14), ((0, 0, 3, 639), 14), ((195, 196, 3, 640), 15), ((196, 195, 3, 640), 15)]:
+            self.assertEqual(asked(3, slices, lengths), (number, 0))
+        self.assertEqual(asked(1001, slices, (0, 0, 0, 0)), (13, 0))
+        self.assertEqual(slices, lent())
+        for n, answer, factors in [(3, (0, 2), [0, 0, 9, 9]), (1, (kernelhop.NONE, 1), [9] * 4), (0, (kernelhop.NONE, 0), [9] * 4)]:
+            slices = first, second, witness, inverses = lent()
+            self.assertEqual(asked(n, slices, map(len, slices)), answer)
+            for table in (first, second):
+                self.assertEqual((set(table[:196]), set(table[196:])), ({0}, {7}))
+            self.assertEqual(witness.tolist(), factors)
+            self.assertEqual(inverses.tobytes(), b"RSS" + b"x" * 638)
+
+    def test_parts(self):
+        """They follow from the list alone; a part is empty, and of the given slice, where a question is answered no or the list has no such factor."""
+
+        def asked(letters, ends, room, number):
+            ends = array("H", ends)
+            part = kernelhop._letters_of(letters, len(letters), ends.buffer_info()[0], len(ends), b"x" * room, room, number)
+            return part.inverse, part.start, part.end
+
+        parts = {0: (0, 0, 2), 1: (0, 2, 3), 128: (1, 0, 3), 129: (1, 3, 5)}
+        for number in range(256):
+            self.assertEqual(asked(b"SRS", [2, 3], 640, number), parts.get(number, (0, 0, 0)))
+            self.assertEqual(asked(b"SRS", [2, 3], 639, number), (0, 0, 0))
+            self.assertEqual(asked(b"", [], 640, number), (0, 0, 0))
+        for number in parts:
+            for letters, ends in [
+                (b"SRS", [3] * 65),
+                (b"R" * 4097, [4096, 4097]),
+                (b"SRS", [2, 1]),
+                (b"SRS", [2, 4]),
+                (b"SRS", []),
+                (b"SRx", [2, 3]),
+                (b"SR" * 41, [0, 82]),
+                (b"SR" * 161, [*range(80, 321, 80), 322]),
+            ]:
+                self.assertEqual(asked(letters, ends, 640, number), (0, 0, 0))
+
+
 class Rooms(Case):
     """The tables that a thread keeps from one verdict to the next."""
 
@@ -267,6 +438,10 @@ class Rooms(Case):
         self.assertIs(reachable(["S"], "SS"), True)
         self.assertIs(reachable(["S"], "R"), False)
         self.refused(10, 1, reachable, ["S", "x"], "R")
+        self.assertEqual(str(subgroup_verdict(["S"], "SS")), "0^-1")
+        self.long()
+        self.refused(10, 1, subgroup_verdict, ["S", "x"], "R", 7)
+        self.assertEqual(subgroup_verdict(["S"], "R", 7), NoMember(7))
         self.long()
 
     def test_one_room_is_kept(self):
@@ -279,6 +454,28 @@ class Rooms(Case):
         self.long()
         self.assertIs(kernelhop._KEPT.room, room)
 
+    def test_tables_grow_once(self):
+        """Where a verdict on a subgroup is asked for, and not before."""
+        sides = []
+
+        def ask():
+            self.long()
+            sides.append(kernelhop._KEPT.room.side)
+            self.assertTrue(subgroup_verdict(["S"], "SS"))
+            room = kernelhop._KEPT.room
+            sides.append(room.side)
+            self.long()
+            self.assertIs(reachable(["S"], "SS"), True)
+            self.refused(13, 0, subgroup_verdict, ["S"], "R", 1001)
+            self.assertIs(kernelhop._KEPT.room, room)
+            sides.append(room.side)
+
+        thread = threading.Thread(target=ask)
+        thread.start()
+        thread.join()
+        self.assertEqual(sides, [481, 993, 993])
+        self.assertEqual(kernelhop._Room(993).tables[1::2], (993 * 993,) * 2)
+
     def test_threads(self):
         wrong = []
 
@@ -288,6 +485,8 @@ class Rooms(Case):
                 if found != Member(((k + 1) % 2,) * k) or answer_card(bytes([3, k, 0, 1, 0, 82])) != NoMember(k):
                     wrong.append(k)
                 if reachable(["SRSR"], "SR" * k) != (k % 2 == 0):
+                    wrong.append(k)
+                if subgroup_verdict(["SR"], "RSS" * k).written != bytes([128] * k):
                     wrong.append(k)
 
         threads = [threading.Thread(target=ask, args=(k,)) for k in range(1, 9)]
@@ -306,6 +505,7 @@ class Rooms(Case):
             with mock.patch.object(kernelhop, "_judge", judge):
                 self.assertEqual(verdict(["S", "RR", "SS"], "SS", 2), Member((2,)))
             self.assertIs(reachable(["S"], "SS"), True)
+            self.assertEqual(str(subgroup_verdict(["S", "RR"], "SS")), "0^-1")
             return outcome
 
         with mock.patch.object(kernelhop, "_judge", interrupted):

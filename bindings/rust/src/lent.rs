@@ -15,6 +15,20 @@ struct Outcome {
 
 const NONE: u8 = 255;
 
+/// Where the letters of a factor stand: from `start` up to `end`, in the inverse slice where `inverse` is 1, and in the given one where it is 0.
+#[repr(C)]
+struct Part {
+    inverse: u8,
+    start: u16,
+    end: u16,
+}
+
+/// The bytes that an inverse slice must have (question 14). No list has more than 512 letters of inverses.
+pub const INVERSES: usize = 640;
+
+/// The number of an inverse factor is this and its generator's.
+pub const INVERSE: u8 = 128;
+
 extern "C" {
     fn kernelhop_version() -> u32;
     fn kernelhop_is_normal(word: *const u8, word_len: usize) -> Outcome;
@@ -56,6 +70,32 @@ extern "C" {
         second: *mut u16,
         second_len: usize,
     ) -> Outcome;
+    fn kernelhop_judge_subgroup(
+        bytes: *const u8,
+        bytes_len: usize,
+        ends: *const u16,
+        ends_len: usize,
+        target: *const u8,
+        target_len: usize,
+        n: u16,
+        first: *mut u16,
+        first_len: usize,
+        second: *mut u16,
+        second_len: usize,
+        witness: *mut u8,
+        witness_len: usize,
+        inverses: *mut u8,
+        inverses_len: usize,
+    ) -> Outcome;
+    fn kernelhop_letters_of(
+        bytes: *const u8,
+        bytes_len: usize,
+        ends: *const u16,
+        ends_len: usize,
+        inverses: *const u8,
+        inverses_len: usize,
+        number: u8,
+    ) -> Part;
     fn kernelhop_answer_card(
         card: *const u8,
         card_len: usize,
@@ -71,10 +111,11 @@ extern "C" {
 /// A verdict whose factors stand in the lent witness.
 #[derive(Clone, Copy, Debug, PartialEq, Eq)]
 pub enum Judged {
-    /// A member: by the generators whose numbers are the first `count` bytes of the witness, and by no fewer; of the series of that count they are the first
-    /// when their numbers are compared from left to right.
+    /// A member: by the factors whose numbers are the first `count` bytes of the witness, and by no fewer; of the series of that count they are the first
+    /// when their numbers are compared from left to right. A factor is a generator, and for `judge_subgroup` also the inverse of one, with a number from
+    /// `INVERSE` on.
     Member { count: usize },
-    /// No product of at most n generators is the target.
+    /// No product of at most n factors is the target.
     None { n: u16 },
 }
 
@@ -187,6 +228,60 @@ pub fn reachable(
             second.len(),
         )
     })
+}
+
+/// The verdict on the subgroup of a list: factor i is generator i, and factor `INVERSE` + i its inverse. Asks questions 7 to 15, those about the list of the
+/// given generators only; 14 also that `inverses` has `INVERSES` bytes; and for 15 the letters of the inverses count as well. What is lent is left as `judge`
+/// leaves it. After a member or none the front of `inverses` is the inverses' normal forms, one behind the other, and its rest is as it was.
+#[allow(clippy::too_many_arguments)]
+pub fn judge_subgroup(
+    bytes: &[u8],
+    ends: &[u16],
+    target: &[u8],
+    n: u16,
+    first: &mut [u16],
+    second: &mut [u16],
+    witness: &mut [u8],
+    inverses: &mut [u8],
+) -> Result<Judged, Refusal> {
+    judged(unsafe {
+        kernelhop_judge_subgroup(
+            bytes.as_ptr(),
+            bytes.len(),
+            ends.as_ptr(),
+            ends.len(),
+            target.as_ptr(),
+            target.len(),
+            n,
+            first.as_mut_ptr(),
+            first.len(),
+            second.as_mut_ptr(),
+            second.len(),
+            witness.as_mut_ptr(),
+            witness.len(),
+            inverses.as_mut_ptr(),
+            inverses.len(),
+        )
+    })
+}
+
+/// The letters of a factor, by its number as `judge_subgroup` writes it: a generator's as they are given, and an inverse's in normal form, as long as
+/// `inverses` holds what that call wrote for the list. Which part of the two slices it is follows from the list alone. It is the empty one at the start of
+/// `given` where a question is answered no, which are 7 to 11 of the list and 14, or where the number is that of no factor of the list.
+pub fn letters_of<'a>(given: &'a [u8], ends: &[u16], inverses: &'a [u8], number: u8) -> &'a [u8] {
+    let part = unsafe {
+        kernelhop_letters_of(
+            given.as_ptr(),
+            given.len(),
+            ends.as_ptr(),
+            ends.len(),
+            inverses.as_ptr(),
+            inverses.len(),
+            number,
+        )
+    };
+    let slice = if part.inverse == 0 { given } else { inverses };
+    &slice[usize::from(part.start)..usize::from(part.end)]
 }
 
 /// The verdict that a card asks for. Asks questions 1 to 15, and does to the lent slices what `judge` does.

@@ -3,16 +3,23 @@
 //! Words are in the letters R and S, where RR and SSS vanish and no other rule holds. Each function takes anything whatever: it answers, or it refuses
 //! by a numbered question. `version()` says which release of the library answers.
 //!
-//! Verdicts are worked out in two tables and a witness that each thread makes at its first verdict and keeps until it ends: up to 926,444 bytes a thread. Who
-//! wants to say what memory is used lends it, by the calls of `lent`.
+//! Verdicts are worked out in two tables and a witness that each thread makes at its first verdict and keeps until it ends: up to 926,444 bytes a thread, and
+//! up to 3,945,196 once it has asked for a verdict on a subgroup. Who wants to say what memory is used lends it, by the calls of `lent`.
 //!
 //! ```
-//! use kernelhop::{reachable, reduce, verdict, Verdict};
+//! use kernelhop::{reachable, reduce, subgroup_verdict, verdict, SubgroupVerdict, Verdict};
 //!
 //! let answer = verdict(&["RSRS", "S", "SRSS"], "R", 3)?;
 //! assert_eq!(answer, Verdict::Member { factors: vec![0, 1, 2] });
 //! assert_eq!(verdict(&["RSRS", "S", "SRSS"], "R", 2)?, Verdict::None { n: 2 });
 //! assert!(reachable(&["RSRS", "S", "SRSS"], "R")?);
+//!
+//! // With inverses as factors: T times U to the -1st, where T is SR and U is SSR.
+//! let SubgroupVerdict::Member(found) = subgroup_verdict(&["SR", "SSR"], "SS", 1000)? else {
+//!     panic!("none");
+//! };
+//! assert_eq!(found.to_string(), "0 1^-1");
+//! assert_eq!(found.letters(found.factors()[1]), "RS");
 //!
 //! let refusal = reduce("SRT").unwrap_err();
 //! assert_eq!((refusal.number(), refusal.place()), (10, 2));
@@ -23,8 +30,10 @@
 pub mod lent;
 mod refusal;
 mod room;
+mod subgroup;
 
 pub use refusal::Refusal;
+pub use subgroup::{SignedFactor, SubgroupMember, SubgroupVerdict};
 
 use lent::Judged;
 use room::Room;
@@ -62,7 +71,7 @@ fn text(letters: &[u8]) -> String {
     letters.iter().map(|&letter| char::from(letter)).collect()
 }
 
-/// The release of the library that answers, such as `1.3.0`.
+/// The release of the library that answers, such as `1.4.0`.
 pub fn version() -> String {
     let release = lent::version();
     format!(
@@ -151,6 +160,43 @@ pub fn reachable(
     let target = target.as_ref();
     let (bytes, ends) = joined(generators);
     Room::lend(|room| lent::reachable(&bytes, &ends, target, &mut room.first, &mut room.second))
+}
+
+/// Is the target a product of at most n factors, each of them a generator or the inverse of one? So the list is taken as the subgroup that it generates, and no
+/// inverse has to be typed; each factor counts as one. Asks questions 7 to 13, those about the list of the given generators only.
+pub fn subgroup_verdict(
+    generators: &[impl AsRef<[u8]>],
+    target: impl AsRef<[u8]>,
+    n: u16,
+) -> Result<SubgroupVerdict, Refusal> {
+    let target = target.as_ref();
+    let (given, ends) = joined(generators);
+    let mut inverses = vec![0; lent::INVERSES];
+    Room::lend_signed(|room| {
+        let judged = lent::judge_subgroup(
+            &given,
+            &ends,
+            target,
+            n,
+            &mut room.first,
+            &mut room.second,
+            &mut room.witness,
+            &mut inverses,
+        )?;
+        Ok(match judged {
+            Judged::Member { count } => SubgroupVerdict::Member(SubgroupMember {
+                factors: room.witness[..count]
+                    .iter()
+                    .copied()
+                    .map(SignedFactor::from_written)
+                    .collect(),
+                given,
+                ends,
+                inverses,
+            }),
+            Judged::None { n } => SubgroupVerdict::None { n },
+        })
+    })
 }
 
 /// The verdict that a query card asks for. Asks questions 1 to 13.

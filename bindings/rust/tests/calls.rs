@@ -1,8 +1,8 @@
 //! The package's functions on worked values, edges, and what they refuse.
 
 use kernelhop::{
-    answer_card, invert, is_normal, lent, matrix_to_word, reachable, reduce, verdict, version,
-    word_to_matrix, Verdict,
+    answer_card, invert, is_normal, lent, matrix_to_word, reachable, reduce, subgroup_verdict,
+    verdict, version, word_to_matrix, SignedFactor, SubgroupMember, SubgroupVerdict, Verdict,
 };
 use std::{cell::RefCell, sync::mpsc, thread};
 
@@ -218,6 +218,150 @@ fn refused_without_a_bound() {
     assert_eq!(refused(reachable(&["R"], &long)), (12, 0));
 }
 
+/// The member of a subgroup, with n 1,000.
+fn in_subgroup(list: &[impl AsRef<[u8]>], target: impl AsRef<[u8]>) -> SubgroupMember {
+    match subgroup_verdict(list, target, 1000).unwrap() {
+        SubgroupVerdict::Member(found) => found,
+        SubgroupVerdict::None { n } => panic!("none {n}"),
+    }
+}
+
+/// How its factors are shown.
+fn shown(list: &[&str], target: &str) -> String {
+    in_subgroup(list, target).to_string()
+}
+
+#[test]
+fn subgroups() {
+    assert_eq!(shown(&["SR"], "SRSRSR"), "0 0 0");
+    assert_eq!(shown(&["SR"], "RSSRSS"), "0^-1 0^-1");
+    assert_eq!(
+        subgroup_verdict(&["SR"], "R", 1000),
+        Ok(SubgroupVerdict::None { n: 1000 })
+    );
+    // T times U to the -1st is SRRS.
+    assert_eq!(shown(&["SR", "SSR"], "SS"), "0 1^-1");
+    // R is its own inverse; of the two numbers the lower is written.
+    assert_eq!(shown(&["R"], "R"), "0");
+    // A generator stands before every inverse, also one of a lower number.
+    assert_eq!(shown(&["S", "SS"], "SS"), "1");
+    assert_eq!(shown(&["S"], "SS"), "0^-1");
+    // Equal generators, as written and by the rules, and empty ones.
+    assert_eq!(shown(&["RS", "SR", "SRRR"], "RSSRSS"), "1^-1 1^-1");
+    assert_eq!(shown(&["", "S", "RR", "S", ""], "SS"), "1^-1");
+    // A list without generators, and a bound of 0.
+    assert_eq!(shown(&[], "RSSSR"), "");
+    assert_eq!(
+        subgroup_verdict(&[""; 0], "R", 1000),
+        Ok(SubgroupVerdict::None { n: 1000 })
+    );
+    assert_eq!(
+        subgroup_verdict(&["SR", "S"], "SR", 0),
+        Ok(SubgroupVerdict::None { n: 0 })
+    );
+    assert_eq!(
+        subgroup_verdict(&["SR", "S"], "SSS", 0),
+        Ok(SubgroupVerdict::Member(in_subgroup(&["SR", "S"], "")))
+    );
+    assert_eq!(in_subgroup(&[b"SR"], b"RSS").written(), [128]);
+}
+
+/// T to the 39th and to the 37th: 19 times 37 is 18 times 39 and 1 more. They may stand in any order, and every generator stands before every inverse.
+#[test]
+fn a_long_series_of_a_subgroup() {
+    let powers = ["SR".repeat(39), "SR".repeat(37)];
+    let written = |target| in_subgroup(&powers, target).written();
+    assert_eq!(written("SR"), [vec![1; 19], vec![128; 18]].concat());
+    assert_eq!(written("RSS"), [vec![0; 18], vec![129; 19]].concat());
+    assert_eq!(
+        subgroup_verdict(&powers, "SR", 36),
+        Ok(SubgroupVerdict::None { n: 36 })
+    );
+}
+
+#[test]
+fn signed_factors() {
+    let found = in_subgroup(&["SR", "SSR"], "SS");
+    let [t, u] = found.factors() else {
+        panic!("{found}");
+    };
+    assert_eq!((t.generator(), t.is_inverse(), t.written()), (0, false, 0));
+    assert_eq!((u.generator(), u.is_inverse(), u.written()), (1, true, 129));
+    assert_eq!(found.written(), [0, 129]);
+    assert_eq!(
+        format!("{found:?}"),
+        "SubgroupMember { factors: [0, 1^-1], .. }"
+    );
+    let [zero, inverse, last] = [0, 128, 255].map(SignedFactor::from_written);
+    assert_eq!(format!("{zero} {inverse} {last}"), "0 0^-1 127^-1");
+    assert!(zero < inverse && SignedFactor::from_written(127) < inverse);
+}
+
+/// Generators S, SR, T to the 40th, nothing, and SRR: what is given is shown as it is given, and an inverse in its normal form.
+#[test]
+fn letters_of_factors() {
+    let long = "SR".repeat(40);
+    let list = ["S", "SR", &long, "", "SRR"];
+    let found = in_subgroup(&list, "RSS");
+    assert_eq!(found.written(), [129]);
+    let letters = |written| found.letters(SignedFactor::from_written(written));
+    for (i, given) in (0..).zip(list) {
+        assert_eq!(letters(i), given);
+    }
+    let inverses = ["SS", "RSS", &"RSS".repeat(40), "", "SS"];
+    for (i, inverse) in (128..).zip(inverses) {
+        assert_eq!(letters(i), inverse);
+    }
+    for number in [5, 63, 64, 127, 133, 192, 255] {
+        assert_eq!(letters(number), "");
+    }
+    // The factors' letters make the target.
+    let product = in_subgroup(&["SR", "SRSSR", "RS"], "SRSRSSRSSR");
+    let words: Vec<_> = product
+        .factors()
+        .iter()
+        .map(|&f| product.letters(f))
+        .collect();
+    assert_eq!(reduce(words.concat()).unwrap(), "SRSRSSRSSR");
+}
+
+/// The largest list that the questions let pass, with 512 letters of inverses, and inverses of 120 letters each.
+#[test]
+fn the_largest_signed_tables() {
+    let found = in_subgroup(&["SRSRS"; 64], "SSRSSRSS");
+    assert_eq!(found.to_string(), "0^-1");
+    let letters = |written| found.letters(SignedFactor::from_written(written));
+    assert_eq!(
+        (letters(63), letters(191)),
+        ("SRSRS".into(), "SSRSSRSS".into())
+    );
+    assert_eq!((letters(64), letters(127)), (String::new(), String::new()));
+    assert_eq!(
+        subgroup_verdict(&["SRSRS"; 64], "SR".repeat(40), 1000),
+        Ok(SubgroupVerdict::None { n: 1000 })
+    );
+    let found = in_subgroup(&vec!["SR".repeat(40); 4], "SR".repeat(40));
+    assert_eq!(found.to_string(), "0");
+    assert_eq!(found.letters(SignedFactor::from_written(131)).len(), 120);
+}
+
+#[test]
+fn refused_subgroups() {
+    let long = "SR".repeat(41);
+    let asked = |list: &[&str], target: &str| refused(subgroup_verdict(list, target, 1001));
+    assert_eq!(asked(&["x"; 65], "x"), (7, 0));
+    assert_eq!(asked(&[&"R".repeat(4097)], "x"), (8, 0));
+    assert_eq!(asked(&[&"R".repeat(70_000), "S"], "x"), (8, 0));
+    assert_eq!(asked(&["x"], &"R".repeat(4097)), (8, 0));
+    assert_eq!(asked(&["RS", "Sx"], &long), (10, 3));
+    assert_eq!(asked(&["RS", "S"], "Rx"), (10, 4));
+    assert_eq!(asked(&["R", &long], &long), (11, 1));
+    assert_eq!(asked(&["SR".repeat(40).as_str(); 5], &long), (11, 4));
+    assert_eq!(asked(&["R"], &long), (12, 0));
+    assert_eq!(asked(&["R"], "R"), (13, 0));
+    assert_eq!(refused(subgroup_verdict(&["R"], "R", u16::MAX)), (13, 0));
+}
+
 #[test]
 fn cards() {
     let card = b"\x0b\x03\x00\x06\x00SRSRSR\x01\x02\x00SR";
@@ -246,6 +390,13 @@ fn nothing_is_left_from_one_verdict_to_the_next() {
     assert_eq!(reachable(&["S"], "SS"), Ok(true));
     assert_eq!(reachable(&["S"], "R"), Ok(false));
     assert_eq!(refused(reachable(&["S", "x"], "R")), (10, 1));
+    assert_eq!(shown(&["S"], "SS"), "0^-1");
+    assert_eq!(long(), member(&[0; 40]));
+    assert_eq!(refused(subgroup_verdict(&["S", "x"], "R", 7)), (10, 1));
+    assert_eq!(
+        subgroup_verdict(&["S"], "R", 7),
+        Ok(SubgroupVerdict::None { n: 7 })
+    );
     assert_eq!(long(), member(&[0; 40]));
 }
 
@@ -263,6 +414,8 @@ fn several_threads() {
                         Verdict::None { n: k as u16 }
                     );
                     assert_eq!(reachable(&["SRSR"], "SR".repeat(k)), Ok(k % 2 == 0));
+                    let found = in_subgroup(&["SR"], "RSS".repeat(k));
+                    assert_eq!(found.written(), vec![128; k]);
                 }
             });
         }
@@ -275,6 +428,7 @@ struct Asking;
 impl AsRef<[u8]> for Asking {
     fn as_ref(&self) -> &[u8] {
         assert_eq!(verdict(&["S"], "SS", 2).unwrap(), member(&[0, 0]));
+        assert_eq!(shown(&["S"], "SS"), "0^-1");
         b"R"
     }
 }
@@ -282,6 +436,7 @@ impl AsRef<[u8]> for Asking {
 #[test]
 fn a_verdict_in_the_midst_of_another() {
     assert_eq!(verdict(&[Asking, Asking], Asking, 5).unwrap(), member(&[0]));
+    assert_eq!(in_subgroup(&[Asking, Asking], Asking).to_string(), "0");
 }
 
 /// Asks for a verdict and sends it when it is dropped.
@@ -407,4 +562,103 @@ fn lent_slices_without_a_bound() {
         Ok(true)
     );
     assert_eq!((first, second), ([0], [0]));
+}
+
+/// What is lent for a subgroup: list SR, whose inverse is RSS, with target SRSR, where q is 2 + 3 + 8 + 1 = 14.
+#[test]
+fn lent_slices_for_a_subgroup() {
+    let mut first = [7; 198];
+    let mut second = [7; 197];
+    let mut witness = [9; 4];
+    let mut inverses = [b'x'; 641];
+    let mut asked = |ends: &[u16], n: u16, [one, other, room, inverse_room]: [usize; 4]| {
+        lent::judge_subgroup(
+            b"SR",
+            ends,
+            b"SRSR",
+            n,
+            &mut first[..one],
+            &mut second[..other],
+            &mut witness[..room],
+            &mut inverses[..inverse_room],
+        )
+    };
+    assert_eq!(refused(asked(&[1], 3, [0, 0, 0, 0])), (9, 1));
+    assert_eq!(refused(asked(&[2], 1001, [0, 0, 0, 0])), (13, 0));
+    assert_eq!(refused(asked(&[2], 3, [0, 0, 2, 640])), (14, 0));
+    assert_eq!(refused(asked(&[2], 3, [0, 0, 3, 639])), (14, 0));
+    assert_eq!(refused(asked(&[2], 3, [195, 196, 3, 640])), (15, 0));
+    assert_eq!(refused(asked(&[2], 3, [196, 195, 3, 640])), (15, 0));
+    assert!(first.iter().chain(&second).all(|&entry| entry == 7));
+    assert_eq!(witness, [9; 4]);
+    assert_eq!(inverses, [b'x'; 641]);
+
+    let verdicts = [
+        (3, lent::Judged::Member { count: 2 }, [0, 0, 9, 9]),
+        (1, lent::Judged::None { n: 1 }, [9; 4]),
+        (0, lent::Judged::None { n: 0 }, [9; 4]),
+    ];
+    for (n, expected, factors) in verdicts {
+        first.fill(7);
+        second.fill(7);
+        witness.fill(9);
+        inverses.fill(b'x');
+        let judged = lent::judge_subgroup(
+            b"SR",
+            &[2],
+            b"SRSR",
+            n,
+            &mut first,
+            &mut second,
+            &mut witness,
+            &mut inverses,
+        );
+        assert_eq!(judged, Ok(expected));
+        assert_eq!(witness, factors);
+        for table in [&first[..], &second] {
+            let (zeros, rest) = table.split_at(196);
+            assert!(zeros.iter().all(|&entry| entry == 0));
+            assert!(rest.iter().all(|&entry| entry == 7));
+        }
+        assert_eq!(&inverses[..3], b"RSS");
+        assert!(inverses[3..].iter().all(|&byte| byte == b'x'));
+    }
+}
+
+/// The part of a factor follows from the list alone; it is empty, and of the given slice, where a question is answered no or the list has no such factor.
+#[test]
+fn lent_letters_of_factors() {
+    let inverses = [b'x'; lent::INVERSES];
+    let given = b"SRS";
+    let letters = |ends: &[u16], number| lent::letters_of(given, ends, &inverses, number);
+    assert_eq!(letters(&[2, 3], 0), b"SR");
+    assert_eq!(letters(&[2, 3], 1), b"S");
+    assert_eq!(letters(&[2, 3], 1).as_ptr(), given[2..].as_ptr());
+    assert_eq!(
+        letters(&[2, 3], 128).as_ptr_range(),
+        inverses[..3].as_ptr_range()
+    );
+    assert_eq!(
+        letters(&[2, 3], 129).as_ptr_range(),
+        inverses[3..5].as_ptr_range()
+    );
+    let nothing = |part: &[u8]| part.as_ptr_range() == given[..0].as_ptr_range();
+    for number in [2, 64, 127, 130, 192, 255] {
+        assert!(nothing(letters(&[2, 3], number)));
+    }
+    for number in [0, 1, 128, 129] {
+        for ends in [&[3; 65][..], &[2, 1], &[2, 4], &[]] {
+            assert!(nothing(letters(ends, number)));
+        }
+        for room in [0, lent::INVERSES - 1] {
+            let part = lent::letters_of(given, &[2, 3], &inverses[..room], number);
+            assert!(nothing(part));
+        }
+        let long = "SR".repeat(41);
+        for (word, end) in [("SRx", 3), (&long, 82)] {
+            let part = lent::letters_of(word.as_bytes(), &[0, end], &inverses, number);
+            assert!(part.is_empty() && part.as_ptr() == word.as_ptr());
+        }
+    }
+    assert_eq!(lent::letters_of(b"", &[], &inverses, 0), b"");
 }

@@ -46,6 +46,12 @@ impl Element {
         Element::of_matrix(entries.map(|entry| entry.expect("an entry of 64 bits")))
     }
 
+    /// By the adjoint of its matrix.
+    pub fn inverse(self) -> Element {
+        let Element([a, b, c, d]) = self;
+        Element::of_matrix([d, -b, -c, a])
+    }
+
     pub fn matrix(self) -> [i64; 4] {
         self.0
     }

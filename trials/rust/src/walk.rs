@@ -9,13 +9,32 @@ use std::collections::HashMap;
 /// that goes through the one before in the order of its first series, and through the factors in theirs, meets each element first by its first series, and the
 /// elements in the order of these.
 pub fn first_series(factors: &[Element], n: usize) -> HashMap<Element, Vec<u8>> {
+    let numbered: Vec<_> = (0..).zip(factors.iter().copied()).collect();
+    first_numbered(&numbered, n)
+}
+
+/// The number of an inverse factor is this and its generator's.
+pub const INVERSE: u8 = 128;
+
+/// The same where a factor may be a generator or its inverse, by the numbers as they are written.
+pub fn first_signed_series(generators: &[Element], n: usize) -> HashMap<Element, Vec<u8>> {
+    let inverses = generators.iter().map(|generator| generator.inverse());
+    let numbered: Vec<_> = (0..)
+        .zip(generators.iter().copied())
+        .chain((INVERSE..).zip(inverses))
+        .collect();
+    first_numbered(&numbered, n)
+}
+
+/// The walk over factors that have numbers, in the order of these.
+fn first_numbered(factors: &[(u8, Element)], n: usize) -> HashMap<Element, Vec<u8>> {
     let mut found = HashMap::from([(Element::ONE, Vec::new())]);
     let mut level = vec![Element::ONE];
     for _ in 0..n {
         let mut next = Vec::new();
         for before in level {
             let series = found[&before].clone();
-            for (number, &factor) in (0u8..).zip(factors) {
+            for &(number, factor) in factors {
                 let after = before.times(factor);
                 found.entry(after).or_insert_with(|| {
                     next.push(after);

@@ -5,7 +5,11 @@
 
 use kernelhop::lent::{judge, reachable, Judged};
 use kernelhop_trials::{
-    automaton::Automaton, element::Element, erasing::normal_form, walk::first_series, words::up_to,
+    automaton::Automaton,
+    lending::{begins_with, bytes, Tables},
+    listing::{lists, List, Word},
+    walk::first_series,
+    words::up_to,
 };
 
 const GENERATORS: usize = 3;
@@ -13,127 +17,45 @@ const LETTERS: usize = 3;
 const TARGET: usize = 6;
 const BOUND: u16 = 5;
 
-/// What stands in the lent slices before a call.
-const ENTRY: u16 = 65535;
-const BYTE: u8 = 255;
-
-/// How much longer than it must be each lent slice is.
-const MORE: usize = 2;
-
-struct Word {
-    letters: Vec<u8>,
-    element: Element,
-    /// Its normal form.
-    form: Vec<u8>,
+fn automaton_of(list: &List) -> Automaton {
+    let words = list.generators.iter().map(|word| word.letters.as_slice());
+    Automaton::new(&words.collect::<Vec<_>>())
 }
 
-impl Word {
-    fn new(letters: Vec<u8>) -> Word {
-        Word {
-            element: Element::of_word(&letters),
-            form: normal_form(&letters),
-            letters,
-        }
-    }
+fn tables_for(list: &List, target: &Word) -> Tables {
+    let forms = list.generators.iter().map(|word| word.form.len());
+    Tables::new(forms.sum(), target.form.len())
 }
 
-/// The two tables of a call.
-struct Tables {
-    lent: [Vec<u16>; 2],
-    /// The entries that each of them must have.
-    entries: usize,
+/// Whether the library's answer is right, where `first` is the first of the least series up to the bound.
+fn is_right(list: &List, target: &Word, n: u16, first: Option<&[u8]>) -> bool {
+    let mut tables = tables_for(list, target);
+    let [one, other] = &mut tables.lent;
+    let mut witness = bytes(usize::from(n));
+    let answer = judge(
+        &list.bytes,
+        &list.ends,
+        &target.letters,
+        n,
+        one,
+        other,
+        &mut witness,
+    );
+    let expected = match first {
+        Some(series) => Judged::Member {
+            count: series.len(),
+        },
+        None => Judged::None { n },
+    };
+    answer == Ok(expected) && begins_with(&witness, first.unwrap_or(&[])) && tables.are_zeroed()
 }
 
-impl Tables {
-    fn new(entries: usize) -> Tables {
-        Tables {
-            lent: [(); 2].map(|()| vec![ENTRY; entries + MORE]),
-            entries,
-        }
-    }
-
-    /// The entries that a call asks for are 0, and the others are as they were.
-    fn are_zeroed(&self) -> bool {
-        self.lent.iter().all(|table| {
-            let (zeros, rest) = table.split_at(self.entries);
-            zeros.iter().all(|&entry| entry == 0) && rest.iter().all(|&entry| entry == ENTRY)
-        })
-    }
-}
-
-/// A list, with its letters and ends as the library takes them.
-struct List<'a> {
-    generators: &'a [&'a Word],
-    bytes: Vec<u8>,
-    ends: Vec<u16>,
-}
-
-impl<'a> List<'a> {
-    fn new(generators: &'a [&'a Word]) -> List<'a> {
-        let mut bytes = Vec::new();
-        let mut ends = Vec::new();
-        for generator in generators {
-            bytes.extend(&generator.letters);
-            ends.push(bytes.len() as u16);
-        }
-        List {
-            generators,
-            bytes,
-            ends,
-        }
-    }
-
-    fn elements(&self) -> Vec<Element> {
-        self.generators.iter().map(|word| word.element).collect()
-    }
-
-    fn automaton(&self) -> Automaton {
-        let words = self.generators.iter().map(|word| word.letters.as_slice());
-        Automaton::new(&words.collect::<Vec<_>>())
-    }
-
-    /// The entries that a table must have.
-    fn entries(&self, target: &Word) -> usize {
-        let m: usize = self.generators.iter().map(|word| word.form.len()).sum();
-        let q = m + 2 * target.form.len() + 1;
-        q * q
-    }
-
-    /// Whether the library's answer is right, where `first` is the first of the least series up to the bound.
-    fn is_right(&self, target: &Word, n: u16, first: Option<&[u8]>) -> bool {
-        let mut tables = Tables::new(self.entries(target));
-        let [one, other] = &mut tables.lent;
-        let mut witness = vec![BYTE; usize::from(n) + MORE];
-        let answer = judge(
-            &self.bytes,
-            &self.ends,
-            &target.letters,
-            n,
-            one,
-            other,
-            &mut witness,
-        );
-        let expected = match first {
-            Some(series) => Judged::Member {
-                count: series.len(),
-            },
-            None => Judged::None { n },
-        };
-        let series = first.unwrap_or(&[]);
-        let (factors, behind) = witness.split_at(series.len());
-        answer == Ok(expected)
-            && factors == series
-            && behind.iter().all(|&byte| byte == BYTE)
-            && tables.are_zeroed()
-    }
-
-    /// Whether the library's answer without a bound is right.
-    fn is_right_without_a_bound(&self, target: &Word, expected: bool) -> bool {
-        let mut tables = Tables::new(self.entries(target));
-        let [one, other] = &mut tables.lent;
-        let answer = reachable(&self.bytes, &self.ends, &target.letters, one, other);
-        answer == Ok(expected) && tables.are_zeroed()
-    }
+/// Whether the library's answer without a bound is right.
+fn is_right_without_a_bound(list: &List, target: &Word, expected: bool) -> bool {
+    let mut tables = tables_for(list, target);
+    let [one, other] = &mut tables.lent;
+    let answer = reachable(&list.bytes, &list.ends, &target.letters, one, other);
+    answer == Ok(expected) && tables.are_zeroed()
 }
 
 #[derive(Default)]
@@ -151,7 +73,7 @@ impl Tried {
     fn list(&mut self, generators: &[&Word], targets: &[Word]) {
         let list = List::new(generators);
         let found = first_series(&list.elements(), usize::from(BOUND));
-        let automaton = list.automaton();
+        let automaton = automaton_of(&list);
         for target in targets {
             let first = found.get(&target.element).map(Vec::as_slice);
             self.without_a_bound(&list, target, automaton.reads(&target.form), first);
@@ -161,7 +83,7 @@ impl Tried {
                     Some(series) => self.members[series.len()] += 1,
                     None => self.none += 1,
                 }
-                if !list.is_right(target, n, first) {
+                if !is_right(&list, target, n, first) {
                     self.differs(&list, target, &format!("n {n}; the walk has {first:?}"));
                 }
             }
@@ -172,7 +94,7 @@ impl Tried {
     /// What the automaton says must be right of the library, and of the series that the walk has.
     fn without_a_bound(&mut self, list: &List, target: &Word, yes: bool, first: Option<&[u8]>) {
         self.unbounded[usize::from(yes)] += 1;
-        if !list.is_right_without_a_bound(target, yes) || (first.is_some() && !yes) {
+        if !is_right_without_a_bound(list, target, yes) || (first.is_some() && !yes) {
             let answer =
                 format!("without a bound; the automaton says {yes}, and the walk has {first:?}");
             self.differs(list, target, &answer);
@@ -183,13 +105,7 @@ impl Tried {
     fn differs(&mut self, list: &List, target: &Word, what: &str) {
         self.differ += 1;
         if self.differ <= 10 {
-            let text = |word: &[u8]| String::from_utf8_lossy(word).into_owned();
-            println!(
-                "differs: letters {}, ends {:?}, target {}, {what}",
-                text(&list.bytes),
-                list.ends,
-                text(&target.letters)
-            );
+            list.report(target, what);
         }
     }
 
@@ -207,18 +123,6 @@ impl Tried {
             self.differ
         );
     }
-}
-
-/// Every list of so many of the words.
-fn lists(count: usize, words: &[Word]) -> Vec<Vec<&Word>> {
-    let mut lists = vec![Vec::new()];
-    for _ in 0..count {
-        lists = lists
-            .iter()
-            .flat_map(|list| words.iter().map(|word| [list.as_slice(), &[word]].concat()))
-            .collect();
-    }
-    lists
 }
 
 fn main() {

@@ -1,0 +1,173 @@
+//! Small lists taken as subgroups, exhaustively: every generator of up to 6 letters, every 2 of up to 4 and every 3 of up to 2, with every target of up
+//! to 6 letters and every bound up to 4. The library's verdict, its factors and what it does to the lent slices are held to a walk of the group by matrices,
+//! with their inverses, which keeps the first of each element's least series; and for every list the letters of the factor of each number, after a verdict,
+//! to its words and to their inverses, reduced by erasing. Prints what was tried, and `0 differ`; where something differs it prints the first of them and exits
+//! with 1.
+
+use kernelhop::lent::{judge_subgroup, letters_of, Judged};
+use kernelhop_trials::{
+    erasing::{inverse, normal_form},
+    lending::{begins_with, bytes, Tables},
+    listing::{lists, List, Word},
+    walk::{first_signed_series, INVERSE},
+    words::up_to,
+};
+
+/// How many generators, and the letters that each may have.
+const LISTS: [(usize, usize); 4] = [(0, 0), (1, 6), (2, 4), (3, 2)];
+const TARGET: usize = 6;
+const BOUND: u16 = 4;
+
+/// The bytes that an inverse slice must have.
+const INVERSES: usize = 640;
+
+/// A list, and the normal forms of its generators' inverses.
+struct Subgroup<'a> {
+    list: List<'a>,
+    inverses: Vec<Vec<u8>>,
+}
+
+impl<'a> Subgroup<'a> {
+    fn new(generators: &'a [&'a Word]) -> Subgroup<'a> {
+        let inverses = generators
+            .iter()
+            .map(|word| normal_form(&inverse(&word.letters)));
+        Subgroup {
+            inverses: inverses.collect(),
+            list: List::new(generators),
+        }
+    }
+
+    fn tables_for(&self, target: &Word) -> Tables {
+        let forms = self.list.generators.iter().map(|word| &word.form);
+        let letters = forms.chain(&self.inverses).map(Vec::len);
+        Tables::new(letters.sum(), target.form.len())
+    }
+
+    /// Whether the library's answer is right, where `first` is the first of the least series up to the bound. The inverse slice is left as it was written.
+    fn is_right(&self, target: &Word, n: u16, first: Option<&[u8]>, lent: &mut Vec<u8>) -> bool {
+        let mut tables = self.tables_for(target);
+        let [one, other] = &mut tables.lent;
+        let mut witness = bytes(usize::from(n));
+        *lent = bytes(INVERSES);
+        let answer = judge_subgroup(
+            &self.list.bytes,
+            &self.list.ends,
+            &target.letters,
+            n,
+            one,
+            other,
+            &mut witness,
+            lent,
+        );
+        let expected = match first {
+            Some(series) => Judged::Member {
+                count: series.len(),
+            },
+            None => Judged::None { n },
+        };
+        answer == Ok(expected)
+            && begins_with(&witness, first.unwrap_or(&[]))
+            && begins_with(lent, &self.inverses.concat())
+            && tables.are_zeroed()
+    }
+
+    /// The word of each factor, by its number; nothing for a number that is no factor's.
+    fn word(&self, number: u8) -> &[u8] {
+        let generator = usize::from(number % INVERSE);
+        if number < INVERSE {
+            let given = self.list.generators.get(generator);
+            given.map_or(&[], |word| &word.letters)
+        } else {
+            self.inverses.get(generator).map_or(&[], Vec::as_slice)
+        }
+    }
+
+    /// Whether the letters of the factor of each number are right, with an inverse slice that a verdict wrote.
+    fn letters_are_right(&self, written: &[u8]) -> bool {
+        (0..=u8::MAX).all(|number| {
+            let letters = letters_of(&self.list.bytes, &self.list.ends, written, number);
+            letters == self.word(number)
+        })
+    }
+}
+
+#[derive(Default)]
+struct Tried {
+    lists: usize,
+    /// The calls whose target is a member, by the least number of factors.
+    members: [usize; BOUND as usize + 1],
+    none: usize,
+    /// The members that have an inverse among their factors.
+    signed: usize,
+    differ: usize,
+}
+
+impl Tried {
+    fn list(&mut self, generators: &[&Word], targets: &[Word]) {
+        let subgroup = Subgroup::new(generators);
+        let found = first_signed_series(&subgroup.list.elements(), usize::from(BOUND));
+        let mut lent = Vec::new();
+        for target in targets {
+            let first = found.get(&target.element).map(Vec::as_slice);
+            for n in 0..=BOUND {
+                let first = first.filter(|series| series.len() <= usize::from(n));
+                match first {
+                    Some(series) => {
+                        self.members[series.len()] += 1;
+                        self.signed += usize::from(series.iter().any(|&factor| factor >= INVERSE));
+                    }
+                    None => self.none += 1,
+                }
+                if !subgroup.is_right(target, n, first, &mut lent) {
+                    let what = format!("n {n}; the walk has {first:?}");
+                    self.differs(&subgroup.list, target, &what);
+                }
+            }
+            if !subgroup.letters_are_right(&lent) {
+                self.differs(&subgroup.list, target, "the letters of a factor");
+            }
+        }
+        self.lists += 1;
+    }
+
+    /// Prints the first ten.
+    fn differs(&mut self, list: &List, target: &Word, what: &str) {
+        self.differ += 1;
+        if self.differ <= 10 {
+            list.report(target, what);
+        }
+    }
+
+    fn print(&self, (generators, letters): (usize, usize), targets: usize) {
+        let calls = self.none + self.members.iter().sum::<usize>();
+        println!(
+            "subgroups of {generators} generators of up to {letters} letters: {} tried, with {targets} targets and {} bounds each; {calls} calls, {} none, \
+             members by count {:?}, {} with an inverse; {} differ",
+            self.lists,
+            BOUND + 1,
+            self.none,
+            self.members,
+            self.signed,
+            self.differ
+        );
+    }
+}
+
+fn main() {
+    let targets: Vec<_> = up_to(TARGET).into_iter().map(Word::new).collect();
+    let mut differ = 0;
+    for (count, letters) in LISTS {
+        let generators: Vec<_> = up_to(letters).into_iter().map(Word::new).collect();
+        let mut tried = Tried::default();
+        for list in lists(count, &generators) {
+            tried.list(&list, &targets);
+        }
+        tried.print((count, letters), targets.len());
+        differ += tried.differ;
+    }
+    println!("{differ} differ");
+    if differ > 0 {
+        std::process::exit(1);
+    }
+}
