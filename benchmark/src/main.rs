@@ -1,24 +1,37 @@
 //! Measures the proved verdict against the same method in plain Rust, in one process: both get the same calls in turn, and must give the same verdict and
-//! write the same factors. The verdict without a bound is measured in the same way, and beside the one with a bound.
+//! write the same factors. The verdict without a bound is measured in the same way, and beside the one with a bound; so is the signed one, which takes a list
+//! as a subgroup, beside the unsigned one on the same list and on the list with its inverses typed.
 //!
 //!     kernelhop_benchmark agree             only holds the one to the other, on 20,000 small calls, and both to a walk of the group
-//!     kernelhop_benchmark ratios            the ratios on the largest calls, a line for each kind: with a bound and without
+//!     kernelhop_benchmark ratios            the ratios on the largest calls, a line for each kind: with a bound, without, and signed
 //!     kernelhop_benchmark PLOT FILE..       all tables in Markdown, and the plot: both of these and a walk of the group. Each file holds what `ratios` printed
 //!                                           where the functions were moved
 
 mod plot;
 mod reference;
 
-use kernelhop::lent::{judge, reachable, Judged};
-use kernelhop_trials::{element::Element, erasing::normal_form, walk::first_series};
+use kernelhop::lent::{judge, judge_subgroup, reachable, Judged, INVERSE, INVERSES};
+use kernelhop_trials::{
+    element::Element,
+    erasing::{inverse, normal_form},
+    walk::{first_series, first_signed_series},
+};
 use reference::{Refusal, Verdict};
 
 fn numbered(refusal: kernelhop::Refusal) -> Refusal {
     (refusal.number(), refusal.place())
 }
 
+fn verdict(answer: Result<Judged, kernelhop::Refusal>) -> Result<Verdict, Refusal> {
+    match answer {
+        Ok(Judged::Member { count }) => Ok(Verdict::Member(count as u16)),
+        Ok(Judged::None { .. }) => Ok(Verdict::None),
+        Err(refusal) => Err(numbered(refusal)),
+    }
+}
+
 fn proved(call: &Call, lent: &mut Lent) -> Result<Verdict, Refusal> {
-    let answer = judge(
+    verdict(judge(
         &call.bytes,
         &call.ends,
         &call.target,
@@ -26,12 +39,7 @@ fn proved(call: &Call, lent: &mut Lent) -> Result<Verdict, Refusal> {
         &mut lent.first,
         &mut lent.second,
         &mut lent.witness,
-    );
-    match answer {
-        Ok(Judged::Member { count }) => Ok(Verdict::Member(count as u16)),
-        Ok(Judged::None { .. }) => Ok(Verdict::None),
-        Err(refusal) => Err(numbered(refusal)),
-    }
+    ))
 }
 
 fn plain(call: &Call, lent: &mut Lent) -> Result<Verdict, Refusal> {
@@ -81,7 +89,49 @@ fn plain_unbounded(call: &Call, lent: &mut Lent) -> Result<bool, Refusal> {
     )
 }
 
-/// One of the five above.
+/// The signed verdict: a factor is a generator or the inverse of one.
+fn proved_signed(call: &Call, lent: &mut Lent) -> Result<Verdict, Refusal> {
+    verdict(judge_subgroup(
+        &call.bytes,
+        &call.ends,
+        &call.target,
+        call.n,
+        &mut lent.first,
+        &mut lent.second,
+        &mut lent.witness,
+        &mut lent.inverses,
+    ))
+}
+
+fn plain_signed(call: &Call, lent: &mut Lent) -> Result<Verdict, Refusal> {
+    reference::judge_signed(
+        &call.bytes,
+        &call.ends,
+        &call.target,
+        call.n,
+        &mut lent.first,
+        &mut lent.second,
+        &mut lent.witness,
+        &mut lent.inverses,
+    )
+}
+
+/// The signed verdict on the first half of a list whose second half are the inverses of these, typed.
+fn proved_half(call: &Call, lent: &mut Lent) -> Result<Verdict, Refusal> {
+    let half = call.ends.len() / 2;
+    verdict(judge_subgroup(
+        &call.bytes[..call.start(half)],
+        &call.ends[..half],
+        &call.target,
+        call.n,
+        &mut lent.first,
+        &mut lent.second,
+        &mut lent.witness,
+        &mut lent.inverses,
+    ))
+}
+
+/// One of the eight above.
 type Run<T> = fn(&Call, &mut Lent) -> Result<T, Refusal>;
 
 /// What is measured: a proved verdict, and the other beside it.
@@ -89,9 +139,14 @@ type Both<A, B> = (Run<A>, Run<B>);
 
 const BOUNDED: Both<Verdict, Verdict> = (proved, plain);
 const UNBOUNDED: Both<bool, bool> = (proved_unbounded, plain_unbounded);
+const SIGNED: Both<Verdict, Verdict> = (proved_signed, plain_signed);
 const OVER_COUNTING: Both<Verdict, Verdict> = (proved, counted);
-/// They share the code of the rules, and are measured in the same rounds all the same: a ratio of two measurements would move with the machine.
+/// They share the code of the rules, and are measured in the same rounds all the same: a ratio of two measurements would move with the machine. So it is with
+/// the next two, which share more.
 const OVER_BOUNDED: Both<bool, Verdict> = (proved_unbounded, proved);
+const OVER_UNSIGNED: Both<Verdict, Verdict> = (proved_signed, proved);
+/// On a list with its inverses typed.
+const OVER_TYPED: Both<Verdict, Verdict> = (proved_half, proved);
 
 /// A list, a target and a bound.
 #[derive(Clone)]
@@ -108,6 +163,7 @@ struct Lent {
     first: Vec<u16>,
     second: Vec<u16>,
     witness: Vec<u8>,
+    inverses: Vec<u8>,
 }
 
 impl Lent {
@@ -116,6 +172,7 @@ impl Lent {
             first: vec![65535; table],
             second: vec![65535; table],
             witness: vec![255; witness],
+            inverses: vec![255; INVERSES],
         }
     }
 }
@@ -175,59 +232,112 @@ fn call_of(generators: &[Vec<u8>], target: Vec<u8>, n: u16) -> Call {
     }
 }
 
-/// So many lists of so many generators of so many letters, each with a target of 80.
-fn large_calls(lists: usize, generators: usize, letters: usize, n: u16) -> Vec<Call> {
+/// Lists of so many generators of so many letters, each with a target of 80.
+fn random_calls(generators: usize, letters: usize, n: u16) -> impl Iterator<Item = Call> {
     let mut random = Random(0x6b65726e656c);
-    let mut large_call = || {
+    std::iter::repeat_with(move || {
         let list: Vec<_> = (0..generators)
             .map(|_| random.normal_word(letters))
             .collect();
         call_of(&list, random.normal_word(80), n)
-    };
-    (0..lists).map(|_| large_call()).collect()
+    })
 }
 
-/// Up to 4 generators of up to 7 letters, a target of up to 12, and n up to 9. One call in eight has an end, a letter, a witness or a table that
-/// may be refused.
+fn large_calls(lists: usize, generators: usize, letters: usize, n: u16) -> Vec<Call> {
+    random_calls(generators, letters, n).take(lists).collect()
+}
+
+/// Up to 4 generators of up to 7 letters, a target of up to 12, and n up to 9. Five calls in 32 have an end, a letter, a witness, a table or an inverse slice
+/// that may be refused.
 fn small_call(random: &mut Random) -> (Call, Lent) {
     let list: Vec<_> = (0..random.below(5)).map(|_| random.any_word(7)).collect();
     let target = random.any_word(12);
     let mut call = call_of(&list, target, random.below(10) as u16);
-    let mut lent = Lent::new(60 * 60, 9);
+    let mut lent = Lent::new(100 * 100, 9);
     match random.below(32) {
         0 => call.bytes.push(b'R'),
         1 => call.target.push(b'r'),
         2 => lent.witness.truncate(4),
         3 => lent.second.truncate(200),
+        4 => lent.inverses.truncate(INVERSES - 1),
         _ => {}
     }
     (call, lent)
 }
 
 impl Call {
-    fn generator(&self, j: usize) -> &[u8] {
-        let from = if j == 0 { 0 } else { self.ends[j - 1] as usize };
-        &self.bytes[from..self.ends[j] as usize]
+    /// Where generator j begins.
+    fn start(&self, j: usize) -> usize {
+        if j == 0 {
+            0
+        } else {
+            self.ends[j - 1] as usize
+        }
     }
 
-    /// Whether the factors multiply to the target.
+    fn generator(&self, j: usize) -> &[u8] {
+        &self.bytes[self.start(j)..self.ends[j] as usize]
+    }
+
+    /// The same call with the inverses of the list's generators typed behind them.
+    fn typed(&self) -> Call {
+        let generators = (0..self.ends.len()).map(|j| self.generator(j));
+        let inverses = generators.clone().map(|word| normal_form(&inverse(word)));
+        let list: Vec<_> = generators.map(<[u8]>::to_vec).chain(inverses).collect();
+        call_of(&list, self.target.clone(), self.n)
+    }
+
+    /// Whether questions 7 and 11 let that list pass. The generators are in normal form.
+    fn can_be_typed(&self) -> bool {
+        let typed = self.typed();
+        let count = typed.ends.len();
+        count <= 64
+            && typed.bytes.len() <= 320
+            && (0..count).all(|j| typed.generator(j).len() <= 80)
+    }
+
+    /// The signed numbers of factors of the list with its inverses typed.
+    fn signed(&self, factors: &[u8]) -> Vec<u8> {
+        let generators = self.ends.len() as u8;
+        let number = |&j: &u8| match j {
+            j if j < generators => j,
+            j => INVERSE + (j - generators),
+        };
+        factors.iter().map(number).collect()
+    }
+
+    /// Whether the factors, by their numbers or their signed ones, multiply to the target.
     fn reached_by(&self, factors: &[u8]) -> bool {
+        let factor = |j: u8| match j {
+            j if j < INVERSE => self.generator(usize::from(j)).to_vec(),
+            j => inverse(self.generator(usize::from(j - INVERSE))),
+        };
         let product = factors.iter().fold(Vec::new(), |product: Vec<u8>, &j| {
-            normal_form(&[&product, self.generator(j as usize)].concat())
+            normal_form(&[product, factor(j)].concat())
         });
         product == normal_form(&self.target)
     }
 
+    fn elements(&self) -> Vec<Element> {
+        let generators = (0..self.ends.len()).map(|j| self.generator(j));
+        generators.map(Element::of_word).collect()
+    }
+
     /// The first of the least series that a walk of the group finds.
     fn walked(&self) -> Option<Vec<u8>> {
-        let elements: Vec<_> = (0..self.ends.len())
-            .map(|j| Element::of_word(self.generator(j)))
-            .collect();
-        first_series(&elements, usize::from(self.n)).remove(&Element::of_word(&self.target))
+        let mut found = first_series(&self.elements(), usize::from(self.n));
+        found.remove(&Element::of_word(&self.target))
+    }
+
+    /// The same where a factor may be an inverse.
+    fn walked_signed(&self) -> Option<Vec<u8>> {
+        let mut found = first_signed_series(&self.elements(), usize::from(self.n));
+        found.remove(&Element::of_word(&self.target))
     }
 }
 
 /// A verdict or a refusal, and a member's factors.
+#[derive(Debug, PartialEq)]
 struct Answer {
     verdict: Result<Verdict, Refusal>,
     factors: Vec<u8>,
@@ -246,24 +356,44 @@ impl Answer {
     }
 }
 
-/// All with a bound on one call. The two that write a witness give the same verdict and leave the same in the lent slices, and their factors reach the target.
-fn compare(call: &Call, lent: &Lent) -> Answer {
-    let [mut ours, mut theirs, mut without] = [(); 3].map(|()| lent.clone());
-    let verdict = proved(call, &mut ours);
-    assert_eq!(verdict, plain(call, &mut theirs));
-    assert!(ours == theirs, "the lent slices differ");
+/// Two that write a witness, on one call. They give the same verdict and leave the same in the lent slices, and their factors reach the target.
+fn compare_both(call: &Call, (ours, theirs): Both<Verdict, Verdict>, lent: &Lent) -> Answer {
+    let [mut lent, mut other] = [(); 2].map(|()| lent.clone());
+    let verdict = ours(call, &mut lent);
+    assert_eq!(verdict, theirs(call, &mut other));
+    assert!(lent == other, "the lent slices differ");
     let factors = match verdict {
-        Ok(Verdict::Member(count)) => ours.witness[..usize::from(count)].to_vec(),
+        Ok(Verdict::Member(count)) => lent.witness[..usize::from(count)].to_vec(),
         Ok(Verdict::None) | Err(_) => Vec::new(),
     };
     if let Ok(Verdict::Member(_)) = verdict {
         assert!(call.reached_by(&factors));
     }
-    // Without a witness question 14 is not put.
-    if !matches!(verdict, Err((14, _))) {
-        assert_eq!(verdict, counted(call, &mut without));
-    }
     Answer { verdict, factors }
+}
+
+/// All with a bound on one call.
+fn compare(call: &Call, lent: &Lent) -> Answer {
+    let answer = compare_both(call, BOUNDED, lent);
+    // Without a witness question 14 is not put.
+    if !matches!(answer.verdict, Err((14, _))) {
+        assert_eq!(answer.verdict, counted(call, &mut lent.clone()));
+    }
+    answer
+}
+
+/// Both signed on one call.
+fn compare_signed(call: &Call, lent: &Lent) -> Answer {
+    compare_both(call, SIGNED, lent)
+}
+
+/// What the unsigned ones say of the list with its inverses typed, by signed numbers.
+fn compare_typed(call: &Call, lent: &Lent) -> Answer {
+    let Answer { verdict, factors } = compare(&call.typed(), lent);
+    Answer {
+        verdict,
+        factors: call.signed(&factors),
+    }
 }
 
 /// Both without a bound on one call. They give the same verdict and leave the same in the lent slices; what is a member with a bound is a yes, so a no is none.
@@ -286,12 +416,55 @@ fn compare_unbounded(
     verdict
 }
 
+/// How many verdicts are members, and how many none.
+#[derive(Default)]
+struct Tally {
+    members: usize,
+    none: usize,
+}
+
+impl Tally {
+    fn note(&mut self, verdict: Result<Verdict, Refusal>) {
+        match verdict {
+            Ok(Verdict::Member(_)) => self.members += 1,
+            Ok(Verdict::None) => self.none += 1,
+            Err(_) => {}
+        }
+    }
+
+    /// The rest of the calls are refused.
+    fn of(&self, calls: usize) -> String {
+        let Tally { members, none } = self;
+        let refused = calls - members - none;
+        format!("{members} members, {none} none, {refused} refused")
+    }
+}
+
+/// The largest bound at which a walk of the group goes through the inverses too.
+const SIGNED_WALK: u16 = 4;
+
+/// Both signed on one call, the unsigned ones on the list with its inverses typed, and a walk of the group.
+fn compare_small_signed(call: &Call, lent: &Lent) -> Result<Verdict, Refusal> {
+    let answer = compare_signed(call, lent);
+    if answer.verdict.is_err() {
+        return answer.verdict;
+    }
+    assert_eq!(answer, compare_typed(call, lent));
+    let near = Call {
+        n: call.n.min(SIGNED_WALK),
+        ..call.clone()
+    };
+    compare_signed(&near, lent).must_be(near.walked_signed());
+    answer.verdict
+}
+
 fn compare_small(calls: usize) {
     let mut random = Random(0x6b65726e656c);
-    let (mut members, mut none, mut refused) = (0, 0, 0);
+    let (mut bounded, mut signed) = (Tally::default(), Tally::default());
     let (mut yes, mut no) = (0, 0);
     for _ in 0..calls {
         let (call, lent) = small_call(&mut random);
+        signed.note(compare_small_signed(&call, &lent));
         let answer = compare(&call, &lent);
         let unbounded = compare_unbounded(&call, &lent, answer.verdict);
         match unbounded {
@@ -306,22 +479,22 @@ fn compare_small(calls: usize) {
         };
         let within = counted(&widest, &mut lent.clone()).map(|verdict| verdict != Verdict::None);
         assert_eq!(unbounded, within);
-        match answer.verdict {
-            Ok(Verdict::Member(_)) => members += 1,
-            Ok(Verdict::None) => none += 1,
-            Err(_) => {
-                refused += 1;
-                continue;
-            }
+        bounded.note(answer.verdict);
+        if answer.verdict.is_ok() {
+            answer.must_be(call.walked());
         }
-        answer.must_be(call.walked());
     }
     println!(
-        "Both agree on {calls} small random calls, and a walk of the group finds the same factors: {members} members, {none} none, {refused} refused.\n"
+        "Both agree on {calls} small random calls, and a walk of the group finds the same factors: {}.\n",
+        bounded.of(calls)
     );
     println!(
         "Without a bound both agree on them too, and with n 1000 plain Rust says the same: {yes} yes, {no} no, {} refused.\n",
         calls - yes - no
+    );
+    println!(
+        "Signed both agree on them too, with the inverses typed the unsigned ones, and for n up to {SIGNED_WALK} a walk of the group: {}.\n",
+        signed.of(calls)
     );
 }
 
@@ -426,6 +599,9 @@ const SHAPES: [(usize, usize); 4] = [(64, 5), (32, 10), (16, 20), (4, 80)];
 /// How many lists of a shape are measured.
 const LISTS: usize = 60;
 
+/// The same of each shape where lists are signed: those of the third take longest by far.
+const SIGNED_LISTS: [usize; 4] = [LISTS, LISTS, FEW, LISTS];
+
 /// Lists of powers of T = SR and U = SSR, and targets of each, which all are products. There are many series of equal count, and they are long.
 const POWERS: [(&str, &[&str]); 4] = [
     (
@@ -464,19 +640,40 @@ struct Kind {
     calls: Vec<Call>,
 }
 
-fn kinds() -> Vec<Kind> {
-    let random = SHAPES.map(|(generators, letters)| Kind {
-        name: format!("{generators} of {letters}"),
-        calls: large_calls(LISTS, generators, letters, 1000),
-    });
-    let powers = POWERS.map(|(generators, targets)| {
+fn powers() -> [Kind; 4] {
+    POWERS.map(|(generators, targets)| {
         let list: Vec<_> = generators.split(", ").map(power_word).collect();
         let call = |target: &&str| call_of(&list, power_word(target), 1000);
         Kind {
             name: generators.to_string(),
             calls: targets.iter().map(call).collect(),
         }
+    })
+}
+
+/// `lists` says how many of each shape.
+fn kinds(lists: [usize; 4]) -> Vec<Kind> {
+    let random = SHAPES
+        .iter()
+        .zip(lists)
+        .map(|(&(generators, letters), lists)| Kind {
+            name: format!("{generators} of {letters}"),
+            calls: large_calls(lists, generators, letters, 1000),
+        });
+    random.chain(powers()).collect()
+}
+
+/// What can be typed with its inverses: random lists that are half as long, and powers.
+fn typed_kinds() -> Vec<Kind> {
+    let random = SHAPES.map(|(generators, letters)| Kind {
+        name: format!("{} of {letters}", generators / 2),
+        calls: random_calls(generators / 2, letters, 1000)
+            .filter(Call::can_be_typed)
+            .take(LISTS)
+            .collect(),
     });
+    let typed = |kind: &Kind| kind.calls.iter().all(Call::can_be_typed);
+    let powers = powers().into_iter().filter(typed);
     random.into_iter().chain(powers).collect()
 }
 
@@ -484,13 +681,15 @@ fn kinds() -> Vec<Kind> {
 struct Ratios {
     bounded: f64,
     unbounded: f64,
+    signed: f64,
 }
 
 fn print_ratios(lent: &mut Lent) {
-    for Kind { calls, .. } in kinds() {
-        let bounded = measure(&calls, BOUNDED, LONG, lent).ratio;
-        let unbounded = measure(&calls, UNBOUNDED, LONG, lent).ratio;
-        println!("{bounded:.4} {unbounded:.4}");
+    for (Kind { calls, .. }, signed) in kinds([LISTS; 4]).iter().zip(kinds(SIGNED_LISTS)) {
+        let bounded = measure(calls, BOUNDED, LONG, lent).ratio;
+        let unbounded = measure(calls, UNBOUNDED, LONG, lent).ratio;
+        let signed = measure(&signed.calls, SIGNED, SHORT, lent).ratio;
+        println!("{bounded:.4} {unbounded:.4} {signed:.4}");
     }
 }
 
@@ -498,10 +697,18 @@ fn print_ratios(lent: &mut Lent) {
 fn read_ratios(file: &str) -> Vec<Ratios> {
     let text = std::fs::read_to_string(file).expect("a file of ratios");
     let read = |line: &str| {
-        let (bounded, unbounded) = line.split_once(' ').expect("two ratios");
-        let [bounded, unbounded] =
-            [bounded, unbounded].map(|ratio| ratio.parse().expect("a ratio"));
-        Ratios { bounded, unbounded }
+        let ratios: Vec<f64> = line
+            .split(' ')
+            .map(|ratio| ratio.parse().expect("a ratio"))
+            .collect();
+        let [bounded, unbounded, signed] = ratios[..] else {
+            panic!("{line} is not three ratios");
+        };
+        Ratios {
+            bounded,
+            unbounded,
+            signed,
+        }
     };
     text.lines().map(read).collect()
 }
@@ -516,6 +723,11 @@ fn cells(ratio: f64, moved: impl Iterator<Item = f64>) -> String {
 
 fn compare_all(calls: &[Call], lent: &Lent) -> Vec<Answer> {
     calls.iter().map(|call| compare(call, lent)).collect()
+}
+
+fn compare_all_signed(calls: &[Call], lent: &Lent) -> Vec<Answer> {
+    let compare = |call| compare_signed(call, lent);
+    calls.iter().map(compare).collect()
 }
 
 /// The number of factors, where there is a series.
@@ -591,6 +803,63 @@ fn without_a_bound(kinds: &[Kind], lent: &mut Lent, moved: &[Vec<Ratios>]) {
     println!();
 }
 
+/// The m of the largest of these lists with its inverses. The generators are in normal form.
+fn most_letters(calls: &[Call]) -> usize {
+    let letters = |call: &Call| call.typed().bytes.len();
+    calls.iter().map(letters).max().unwrap_or(0)
+}
+
+/// Prints the table of the signed verdict. The last ratio is to the proved unsigned one.
+fn signed(kinds: &[Kind], lent: &mut Lent, moved: &[Vec<Ratios>]) {
+    println!("| generators | calls | most m | members | most factors | proved, ms | plain Rust, ms | ratios | mean | over unsigned |");
+    println!("|---|---|---|---|---|---|---|---|---|---|");
+    for (i, Kind { name, calls }) in kinds.iter().enumerate() {
+        let counts = counts(&compare_all_signed(calls, lent));
+        let Measured {
+            proved,
+            other,
+            ratio,
+        } = measure(calls, SIGNED, SHORT, lent);
+        let over_unsigned = measure(calls, OVER_UNSIGNED, SHORT, lent).ratio;
+        println!(
+            "| {name} | {} | {} | {} | {} | {proved:.3} | {other:.3} | {} | {over_unsigned:.2} |",
+            calls.len(),
+            most_letters(calls),
+            counts.len(),
+            counts.iter().max().unwrap_or(&0),
+            cells(ratio, moved.iter().map(|ratios| ratios[i].signed))
+        );
+    }
+    println!();
+}
+
+/// Prints the table of the signed verdict beside the unsigned one on the list with its inverses typed, both proved.
+fn against_typing(lent: &mut Lent) {
+    println!(
+        "| generators | calls | most m | members | signed, ms | typed, ms | signed over typed |"
+    );
+    println!("|---|---|---|---|---|---|---|");
+    for Kind { name, calls } in typed_kinds() {
+        let answers = compare_all_signed(&calls, lent);
+        for (call, answer) in calls.iter().zip(&answers) {
+            assert_eq!(*answer, compare_typed(call, lent));
+        }
+        let typed: Vec<_> = calls.iter().map(Call::typed).collect();
+        let Measured {
+            proved,
+            other,
+            ratio,
+        } = measure(&typed, OVER_TYPED, SHORT, lent);
+        println!(
+            "| {name} | {} | {} | {} | {proved:.3} | {other:.3} | {ratio:.2} |",
+            calls.len(),
+            most_letters(&calls),
+            counts(&answers).len()
+        );
+    }
+    println!();
+}
+
 /// Times over those of plain Rust that only counts. `ratios` are those of the proved verdict to plain Rust.
 fn over_counting(kinds: &[Kind], lent: &mut Lent, ratios: &[f64]) {
     println!("Counting is plain Rust without the witness. For `none` up to {FEW} of the calls have n one below the least count, where there is a series.\n");
@@ -615,10 +884,28 @@ fn over_counting(kinds: &[Kind], lent: &mut Lent, ratios: &[f64]) {
 /// How many lists of a shape are measured where only the growth matters.
 const FEW: usize = 8;
 
+/// Lists of a shape with fewer generators.
+fn calls_of_m(generators: usize, letters: usize, m: usize) -> Vec<Call> {
+    large_calls(FEW, generators * m / 320, letters, 1000)
+}
+
+/// The milliseconds of the proved verdict.
+fn milliseconds(calls: &[Call], lent: &mut Lent) -> String {
+    compare_all(calls, lent);
+    format!("{:.3}", measure(calls, BOUNDED, SHORT, lent).proved)
+}
+
+/// The time of the proved signed verdict over that of the unsigned one.
+fn over_unsigned(calls: &[Call], lent: &mut Lent) -> String {
+    compare_all_signed(calls, lent);
+    format!("{:.2}", measure(calls, OVER_UNSIGNED, SHORT, lent).ratio)
+}
+
 fn growth(
     heading: &str,
     values: [usize; 3],
     calls: fn(usize, usize, usize) -> Vec<Call>,
+    cell: fn(&[Call], &mut Lent) -> String,
     lent: &mut Lent,
 ) {
     println!(
@@ -627,15 +914,8 @@ fn growth(
     );
     println!("|---|---|---|---|");
     for (generators, letters) in SHAPES {
-        let times = values.map(|value| {
-            let calls = calls(generators, letters, value);
-            compare_all(&calls, lent);
-            measure(&calls, BOUNDED, SHORT, lent).proved
-        });
-        println!(
-            "| {generators} of {letters} | {:.3} | {:.3} | {:.3} |",
-            times[0], times[1], times[2]
-        );
+        let cells = values.map(|value| cell(&calls(generators, letters, value), lent));
+        println!("| {generators} of {letters} | {} |", cells.join(" | "));
     }
     println!();
 }
@@ -692,7 +972,7 @@ fn main() {
         .split_first()
         .expect("agree, ratios, or the plot's file");
     reference::shift();
-    let mut lent = Lent::new(481 * 481, 1000);
+    let mut lent = Lent::new(993 * 993, 1000);
     match plot.as_str() {
         "agree" => return compare_small(20_000),
         "ratios" => return print_ratios(&mut lent),
@@ -700,25 +980,27 @@ fn main() {
     }
     let moved: Vec<_> = files.iter().map(|file| read_ratios(file)).collect();
     compare_small(20_000);
-    let kinds = kinds();
+    let all = kinds([LISTS; 4]);
     println!("## m 320, t 80; and powers of T = SR and U = SSR with products of them as targets: n 1000\n");
-    let ratios = against_plain_rust(&kinds, &mut lent, &moved);
+    let ratios = against_plain_rust(&all, &mut lent, &moved);
     println!("## The same calls without a bound, and over the proved verdict with n 1000\n");
-    without_a_bound(&kinds, &mut lent, &moved);
+    without_a_bound(&all, &mut lent, &moved);
+    println!("## The same lists signed, and over the proved unsigned verdict: n 1000\n");
+    signed(&kinds(SIGNED_LISTS), &mut lent, &moved);
+    println!("## Signed over unsigned as the given list's m grows: t 80, n 1000\n");
+    growth("m", [80, 160, 320], calls_of_m, over_unsigned, &mut lent);
+    println!("## Signed beside the same list with its inverses typed: t 80, n 1000\n");
+    against_typing(&mut lent);
     println!("## What the choice of the first series costs: times over that of counting\n");
-    over_counting(&kinds, &mut lent, &ratios);
+    over_counting(&all, &mut lent, &ratios);
     println!("## Milliseconds of the proved verdict as m grows: t 80, n 1000\n");
-    growth(
-        "m",
-        [80, 160, 320],
-        |generators, letters, m| large_calls(FEW, generators * m / 320, letters, 1000),
-        &mut lent,
-    );
+    growth("m", [80, 160, 320], calls_of_m, milliseconds, &mut lent);
     println!("## Milliseconds of the proved verdict as n grows: m 320, t 80\n");
     growth(
         "n",
         [10, 100, 1000],
         |generators, letters, n| large_calls(FEW, generators, letters, n as u16),
+        milliseconds,
         &mut lent,
     );
     println!("## Beside a walk of the group: generators of 10 letters, t 80, n {WALK}\n");

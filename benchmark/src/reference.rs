@@ -1,13 +1,15 @@
 //! The bounded verdict in plain Rust, by the same method as the proved one: the questions, the reduced list, the tree of suffixes, the table of
 //! pairs filled by levels, the target's rows, the witness chosen among the entries that the target needs, and the zeroing. What the proved one passes
 //! over is passed over here too: rows without an entry of the level, a level that no entry lies above, rules that cannot lower anything, rows of choices
-//! where nothing is to be done. The verdict without a bound, made of the same parts, is in `closing`. It proves nothing; it is what the benchmark measures
-//! against.
+//! where nothing is to be done. The verdict without a bound, made of the same parts, is in `closing`, and the signed one in `signing`. It proves nothing; it is
+//! what the benchmark measures against.
 
 mod closing;
+mod signing;
 mod witness;
 
 pub use closing::reachable;
+pub use signing::judge_signed;
 use witness::Counts;
 
 // Where a loop stands in the lines of the processor's cache moves its time by some percent. So the program is linked four times, with all functions from here on, the
@@ -40,7 +42,10 @@ const GENERATORS: usize = 64;
 const LIST_LETTERS: usize = 320;
 const FORM: usize = 80;
 const LETTERS: usize = 4096;
-const NODES: usize = LIST_LETTERS + 1;
+/// A list with its inverses behind it, which have half as many letters again and half a letter more for each generator.
+const SIGNED_GENERATORS: usize = 2 * GENERATORS;
+const SIGNED_LETTERS: usize = LIST_LETTERS + LIST_LETTERS * 3 / 2 + GENERATORS / 2;
+const NODES: usize = SIGNED_LETTERS + 1;
 const LARGEST_BOUND: u16 = 1000;
 
 #[derive(Clone, Copy, Debug, PartialEq)]
@@ -89,21 +94,31 @@ fn of_list(bytes: &[u8], ends: &[u16], target: &[u8]) -> Result<(), Refusal> {
     }
 }
 
-/// The generators reduced, one behind the other.
+/// The generators reduced, one behind the other. There is room for their inverses too.
 struct List {
-    letters: [u8; LIST_LETTERS],
+    letters: [u8; SIGNED_LETTERS],
     len: usize,
-    ends: [u16; GENERATORS],
+    ends: [u16; SIGNED_GENERATORS],
     generators: usize,
+}
+
+impl List {
+    fn push(&mut self, form: &[u8]) {
+        let end = self.len + form.len();
+        self.letters[self.len..end].copy_from_slice(form);
+        self.len = end;
+        self.ends[self.generators] = end as u16;
+        self.generators += 1;
+    }
 }
 
 /// Reduces the generators, which puts question 11.
 fn reduce_list(bytes: &[u8], ends: &[u16]) -> Result<List, Refusal> {
     let mut list = List {
-        letters: [0; LIST_LETTERS],
+        letters: [0; SIGNED_LETTERS],
         len: 0,
-        ends: [0; GENERATORS],
-        generators: ends.len(),
+        ends: [0; SIGNED_GENERATORS],
+        generators: 0,
     };
     let mut form = [0; LETTERS];
     let mut from = 0;
@@ -112,9 +127,7 @@ fn reduce_list(bytes: &[u8], ends: &[u16]) -> Result<List, Refusal> {
         if len > FORM || list.len + len > LIST_LETTERS {
             return Err((11, i));
         }
-        list.letters[list.len..list.len + len].copy_from_slice(&form[..len]);
-        list.len += len;
-        list.ends[i] = list.len as u16;
+        list.push(&form[..len]);
         from = end as usize;
     }
     Ok(list)
@@ -130,7 +143,11 @@ struct Query {
 /// Puts questions 7 to 12.
 fn pose(bytes: &[u8], ends: &[u16], target: &[u8]) -> Result<Query, Refusal> {
     of_list(bytes, ends, target)?;
-    let list = reduce_list(bytes, ends)?;
+    pose_reduced(reduce_list(bytes, ends)?, target)
+}
+
+/// Puts question 12.
+fn pose_reduced(list: List, target: &[u8]) -> Result<Query, Refusal> {
     let mut letters = [0; LETTERS];
     let len = reduce(target, &mut letters);
     if len > FORM {
@@ -167,7 +184,7 @@ struct Tree {
     rests: [u16; NODES],
     children_r: [u16; NODES],
     children_s: [u16; NODES],
-    wholes: [u16; GENERATORS],
+    wholes: [u16; SIGNED_GENERATORS],
     generators: usize,
     count: usize,
 }
@@ -179,7 +196,7 @@ impl Tree {
             rests: [0; NODES],
             children_r: [0; NODES],
             children_s: [0; NODES],
-            wholes: [0; GENERATORS],
+            wholes: [0; SIGNED_GENERATORS],
             generators: ends.len(),
             count: 1,
         };
@@ -412,6 +429,25 @@ fn of_bound(n: u16, witness: Option<&[u8]>) -> Result<(), Refusal> {
     Ok(())
 }
 
+/// The verdict on what has passed all questions, which lets `room` entries of each table be written.
+fn settle(
+    query: &Query,
+    n: u16,
+    first: &mut [u16],
+    second: &mut [u16],
+    witness: Option<&mut [u8]>,
+    room: usize,
+) -> Verdict {
+    let verdict = if query.form().is_empty() {
+        Verdict::Member(0)
+    } else {
+        search(query, n, first, second, witness)
+    };
+    first[..room].fill(0);
+    second[..room].fill(0);
+    verdict
+}
+
 /// Without a witness only the verdict and the count are found.
 pub fn judge(
     bytes: &[u8],
@@ -425,12 +461,5 @@ pub fn judge(
     let query = pose(bytes, ends, target)?;
     of_bound(n, witness.as_deref())?;
     let room = query.room(first, second)?;
-    let verdict = if query.form().is_empty() {
-        Verdict::Member(0)
-    } else {
-        search(&query, n, first, second, witness)
-    };
-    first[..room].fill(0);
-    second[..room].fill(0);
-    Ok(verdict)
+    Ok(settle(&query, n, first, second, witness, room))
 }
