@@ -16,7 +16,9 @@ ghost use Rattle.subgroups.specs.Parts.{partOf};
 // Enough for q up to 24.
 const TABLE: usize = 576;
 
-// Enough for q up to 369, by 208 letters and a target of 80.
+// Enough for q up to 217, by 208 letters and a target of 4; and up to 369, by a target of 80.
+const MIDDLE_TABLE: usize = 47089;
+
 const LARGE_TABLE: usize = 136161;
 
 // Enough for q = 849, by 832 letters and a target of 8, and one entry less.
@@ -24,9 +26,7 @@ const LARGEST_TABLE: usize = 720801;
 
 const LARGEST_LESS_ONE: usize = 720800;
 
-// Enough for q = 18, and one entry less.
-const ENOUGH: usize = 324;
-
+// One entry less than q = 18 needs.
 const TOO_SHORT: usize = 323;
 
 // Enough for the largest n, and one byte less.
@@ -100,22 +100,6 @@ fn small(bytes: &[u8], ends: &[u16], target: &[u8], n: u16) {
     );
 }
 
-fn large(bytes: &[u8], ends: &[u16], target: &[u8], n: u16, inverses: &mut [u8]) {
-    let mut first = [65535u16; LARGE_TABLE];
-    let mut second = [65535u16; LARGE_TABLE];
-    let mut witness = [255u8; WITNESS];
-    judge(
-        bytes,
-        ends,
-        target,
-        n,
-        &mut first,
-        &mut second,
-        &mut witness,
-        inverses,
-    );
-}
-
 fn without_list(target: &[u8], n: u16) {
     let ends = [0u16; 0];
     small(b"", &ends, target, n);
@@ -134,13 +118,11 @@ fn worked_values() {
     small(b"RSS", &two, b"R", 1);
     let three = [4u16, 5, 9];
     small(b"RSRSSSRSS", &three, b"R", 3);
-    small(b"RSRSSSRSS", &three, b"R", 2);
 }
 
 // No factors, and generators that are empty or reduce to nothing.
 fn empty_words() {
     without_list(b"", 0);
-    without_list(b"SRRSS", 1000);
     without_list(b"R", 1000);
     let empty = [0u16];
     small(b"", &empty, b"", 1000);
@@ -163,38 +145,30 @@ fn firsts() {
     small(b"SR", &s_before_r, b"SSRSRSS", 1000);
 }
 
-// Powers of T, up and down: the count is the bound, is above it, and is far below it; R is none of them.
+// Powers of T, up and down: the count is the bound, or above it; R is none of them.
 fn powers_of_t() {
     let ends = [2u16];
     small(b"SR", &ends, b"SRSRSR", 3);
     small(b"SR", &ends, b"RSSRSS", 2);
     small(b"SR", &ends, b"RSSRSS", 1);
-    small(b"SR", &ends, b"RSSRSS", 1000);
     small(b"SR", &ends, b"R", 1000);
-}
-
-// T to the 26th, whose inverse has 78 letters.
-fn long_inverse() {
-    let ends = [52u16];
-    let mut inverses = [46u8; INVERSES];
-    large(
-        b"SRSRSRSRSRSRSRSRSRSRSRSRSRSRSRSRSRSRSRSRSRSRSRSRSRSR",
-        &ends,
-        b"RSSRSSRSSRSSRSSRSSRSSRSSRSSRSSRSSRSSRSSRSSRSSRSSRSSRSSRSSRSSRSSRSSRSSRSSRSSRSS",
-        1000,
-        &mut inverses,
-    );
 }
 
 // S, SR, SR to the 40th, and an empty generator.
 fn four(target: &[u8], n: u16) {
-    let ends = [1u16, 3, 83, 83];
+    let mut first = [65535u16; LARGE_TABLE];
+    let mut second = [65535u16; LARGE_TABLE];
+    let mut witness = [255u8; WITNESS];
     let mut inverses = [46u8; INVERSES];
-    large(
+    let ends = [1u16, 3, 83, 83];
+    judge(
         b"SSRSRSRSRSRSRSRSRSRSRSRSRSRSRSRSRSRSRSRSRSRSRSRSRSRSRSRSRSRSRSRSRSRSRSRSRSRSRSRSRSR",
         &ends,
         target,
         n,
+        &mut first,
+        &mut second,
+        &mut witness,
         &mut inverses,
     );
 }
@@ -231,13 +205,107 @@ fn factor<'a>(bytes: &'a [u8], ends: &[u16], inverses: &'a [u8], number: u8) -> 
     part
 }
 
-// The last numbers that factors have, and others.
-fn last_of_64<'a>(bytes: &'a [u8], ends: &[u16], inverses: &'a [u8]) {
+// Given and inverse numbers, of which a list of 64 generators has all but four, and a list of two only four.
+fn factors<'a>(bytes: &'a [u8], ends: &[u16], inverses: &'a [u8]) {
+    factor(bytes, ends, inverses, 0);
+    factor(bytes, ends, inverses, 1);
+    factor(bytes, ends, inverses, 2);
+    factor(bytes, ends, inverses, 3);
     factor(bytes, ends, inverses, 63);
     factor(bytes, ends, inverses, 64);
     factor(bytes, ends, inverses, 127);
+    factor(bytes, ends, inverses, 128);
+    factor(bytes, ends, inverses, 129);
+    factor(bytes, ends, inverses, 130);
+    factor(bytes, ends, inverses, 131);
+    factor(bytes, ends, inverses, 132);
     factor(bytes, ends, inverses, 191);
     factor(bytes, ends, inverses, 192);
+    factor(bytes, ends, inverses, 255);
+}
+
+// With just enough entries. As arrays the tables have their lengths by their types, and no proof has to count their entries.
+fn just_enough(
+    bytes: &[u8],
+    ends: &[u16],
+    target: &[u8],
+    first: &mut [u16; LARGEST_TABLE],
+    second: &mut [u16; LARGEST_TABLE],
+    witness: &mut [u8],
+    inverses: &mut [u8],
+) -> Verdict
+    ensures { λ r. ⌜ JudgesSigned (now (bytes .entry)) (now (ends .entry)) (now (target .entry)) 1 r
+        (record { first = now (first .entry); second = now (second .entry); witness = now (witness .entry) })
+        (record { first = now (first .exit); second = now (second .exit); witness = now (witness .exit) })
+        (now (inverses .entry)) (now (inverses .exit)) ⌝ }
+{
+    judge(bytes, ends, target, 1, first, second, witness, inverses)
+}
+
+// The second table has one entry too few.
+fn one_entry_less(
+    bytes: &[u8],
+    ends: &[u16],
+    target: &[u8],
+    first: &mut [u16; LARGEST_TABLE],
+    second: &mut [u16; LARGEST_LESS_ONE],
+    witness: &mut [u8],
+    inverses: &mut [u8],
+) -> Verdict
+    ensures { λ r. ⌜ JudgesSigned (now (bytes .entry)) (now (ends .entry)) (now (target .entry)) 1 r
+        (record { first = now (first .entry); second = now (second .entry); witness = now (witness .entry) })
+        (record { first = now (first .exit); second = now (second .exit); witness = now (witness .exit) })
+        (now (inverses .entry)) (now (inverses .exit)) ⌝ }
+{
+    judge(bytes, ends, target, 1, first, second, witness, inverses)
+}
+
+// No witness for one factor; an inverse slice with one byte too few; a table with one entry too few; and then just enough of all.
+fn in_largest_tables(bytes: &[u8], ends: &[u16], target: &[u8]) {
+    let mut first = [65535u16; LARGEST_TABLE];
+    let mut second = [65535u16; LARGEST_TABLE];
+    let mut less = [65535u16; LARGEST_LESS_ONE];
+    let mut none = [255u8; 0];
+    let mut one = [255u8; 1];
+    let mut inverses = [46u8; INVERSES];
+    let mut short = [46u8; SHORT_INVERSES];
+    just_enough(
+        bytes,
+        ends,
+        target,
+        &mut first,
+        &mut second,
+        &mut none,
+        &mut inverses,
+    );
+    just_enough(
+        bytes,
+        ends,
+        target,
+        &mut first,
+        &mut second,
+        &mut one,
+        &mut short,
+    );
+    one_entry_less(
+        bytes,
+        ends,
+        target,
+        &mut first,
+        &mut less,
+        &mut one,
+        &mut inverses,
+    );
+    just_enough(
+        bytes,
+        ends,
+        target,
+        &mut first,
+        &mut second,
+        &mut one,
+        &mut inverses,
+    );
+    factors(bytes, ends, &inverses);
 }
 
 // The ends of 64 generators of 5 letters each.
@@ -308,94 +376,14 @@ const FIVES: [u16; GENERATORS] = [
     320,
 ];
 
-// The largest m: 64 times SRSRS, with 320 letters, and 512 of the inverses. One table has one entry too few, and then both have just enough.
-fn sixty_four(
-    short: &mut [u16; LARGEST_LESS_ONE],
-    first: &mut [u16; LARGEST_TABLE],
-    second: &mut [u16; LARGEST_TABLE],
-) {
-    let bytes =
-        b"SRSRSSRSRSSRSRSSRSRSSRSRSSRSRSSRSRSSRSRSSRSRSSRSRSSRSRSSRSRSSRSRSSRSRSSRSRSSRSRSSRSRSSRSRSSRSRSSRSRSSRSRSSRSRSSRSRSSRSRSSRSRSSRSRSSRSRSSRSRSSRSRSSRSRSSRSRSSRSRSSRSRSSRSRSSRSRSSRSRSSRSRSSRSRSSRSRSSRSRSSRSRSSRSRSSRSRSSRSRSSRSRSSRSRSSRSRSSRSRSSRSRSSRSRSSRSRSSRSRSSRSRSSRSRSSRSRSSRSRSSRSRSSRSRSSRSRSSRSRSSRSRSSRSRSSRSRSSRSRS";
+// The largest m: 64 times SRSRS, with 320 letters, and 512 of the inverses.
+fn sixty_four() {
     let ends = FIVES;
-    let mut witness = [255u8; WITNESS];
-    let mut inverses = [46u8; INVERSES];
-    judge(
-        bytes,
+    in_largest_tables(
+        b"SRSRSSRSRSSRSRSSRSRSSRSRSSRSRSSRSRSSRSRSSRSRSSRSRSSRSRSSRSRSSRSRSSRSRSSRSRSSRSRSSRSRSSRSRSSRSRSSRSRSSRSRSSRSRSSRSRSSRSRSSRSRSSRSRSSRSRSSRSRSSRSRSSRSRSSRSRSSRSRSSRSRSSRSRSSRSRSSRSRSSRSRSSRSRSSRSRSSRSRSSRSRSSRSRSSRSRSSRSRSSRSRSSRSRSSRSRSSRSRSSRSRSSRSRSSRSRSSRSRSSRSRSSRSRSSRSRSSRSRSSRSRSSRSRSSRSRSSRSRSSRSRSSRSRSSRSRSSRSRS",
         &ends,
         b"SSRSSRSS",
-        1,
-        first,
-        short,
-        &mut witness,
-        &mut inverses,
     );
-    judge(
-        bytes,
-        &ends,
-        b"SSRSSRSS",
-        1,
-        first,
-        second,
-        &mut witness,
-        &mut inverses,
-    );
-    last_of_64(bytes, &ends, &inverses);
-}
-
-// As arrays the tables have their lengths by their types: a check does not count their entries.
-fn largest_tables() {
-    let mut short = [65535u16; LARGEST_LESS_ONE];
-    let mut first = [65535u16; LARGEST_TABLE];
-    let mut second = [65535u16; LARGEST_TABLE];
-    sixty_four(&mut short, &mut first, &mut second);
-}
-
-// SR and its cube: q is 18.
-fn cube(n: u16, first: &mut [u16], second: &mut [u16], witness: &mut [u8], inverses: &mut [u8]) {
-    let ends = [2u16];
-    judge(b"SR", &ends, b"SRSRSR", n, first, second, witness, inverses);
-}
-
-// Questions 13 to 15, each alone and before the next; what is lent stays as it was until all are answered yes.
-fn rooms() {
-    let mut first = [65535u16; ENOUGH];
-    let mut second = [65535u16; ENOUGH];
-    let mut short = [65535u16; TOO_SHORT];
-    let mut witness = [255u8; WITNESS];
-    let mut short_witness = [255u8; SHORT_WITNESS];
-    let mut inverses = [46u8; INVERSES];
-    let mut short_inverses = [46u8; SHORT_INVERSES];
-    cube(
-        1001,
-        &mut first,
-        &mut second,
-        &mut witness,
-        &mut short_inverses,
-    );
-    cube(
-        1000,
-        &mut first,
-        &mut second,
-        &mut short_witness,
-        &mut inverses,
-    );
-    cube(
-        1000,
-        &mut first,
-        &mut second,
-        &mut witness,
-        &mut short_inverses,
-    );
-    cube(
-        1000,
-        &mut short,
-        &mut second,
-        &mut witness,
-        &mut short_inverses,
-    );
-    cube(1000, &mut short, &mut second, &mut witness, &mut inverses);
-    cube(1000, &mut first, &mut short, &mut witness, &mut inverses);
-    cube(1000, &mut first, &mut second, &mut witness, &mut inverses);
 }
 
 // Of all that is lent too little.
@@ -416,7 +404,8 @@ fn too_little(bytes: &[u8], ends: &[u16], target: &[u8], n: u16) {
     );
 }
 
-// At first the answer to every question from 7 to 15 is no, and then from call to call one more is yes, up to 14.
+// At first the answer to every question from 7 to 15 is no, and then from call to call one more is yes. Of question 14 the last call answers yes for the
+// witness, and no for the inverse slice.
 fn lowest_of_many() {
     let far_too_many = [88u8; TOO_MANY_LETTERS];
     let too_many_ends = [0u16; TOO_MANY_GENERATORS];
@@ -455,28 +444,34 @@ fn lowest_of_the_rest() {
     );
     too_little(b"SR", &ends, b"SRSRSR", 1001);
     too_little(b"SR", &ends, b"SRSRSR", 1000);
+    too_little(b"SR", &ends, b"SRSRSR", 999);
 }
 
-// All factors of four generators.
-fn eight_factors<'a>(bytes: &'a [u8], ends: &[u16], inverses: &'a [u8]) {
-    factor(bytes, ends, inverses, 0);
-    factor(bytes, ends, inverses, 1);
-    factor(bytes, ends, inverses, 2);
-    factor(bytes, ends, inverses, 3);
-    factor(bytes, ends, inverses, 128);
-    factor(bytes, ends, inverses, 129);
-    factor(bytes, ends, inverses, 130);
-    factor(bytes, ends, inverses, 131);
+// A verdict, and then the factors.
+fn with_factors(bytes: &[u8], ends: &[u16], target: &[u8], n: u16) {
+    let mut first = [65535u16; MIDDLE_TABLE];
+    let mut second = [65535u16; MIDDLE_TABLE];
+    let mut witness = [255u8; WITNESS];
+    let mut inverses = [46u8; INVERSES];
+    judge(
+        bytes,
+        ends,
+        target,
+        n,
+        &mut first,
+        &mut second,
+        &mut witness,
+        &mut inverses,
+    );
+    factors(bytes, ends, &inverses);
 }
 
-// Those of S, SR, SR to the 40th and an empty generator; by a slice that was overwritten, and by one that is too short.
+// The factors of S, SR, SR to the 40th and an empty generator; some by a slice that was overwritten, and by one that is too short.
 fn factors_of_four() {
     let bytes =
         b"SSRSRSRSRSRSRSRSRSRSRSRSRSRSRSRSRSRSRSRSRSRSRSRSRSRSRSRSRSRSRSRSRSRSRSRSRSRSRSRSRSR";
     let ends = [1u16, 3, 83, 83];
-    let mut inverses = [46u8; INVERSES];
-    large(bytes, &ends, b"", 0, &mut inverses);
-    eight_factors(bytes, &ends, &inverses);
+    with_factors(bytes, &ends, b"SRSR", 2);
     let overwritten = [46u8; INVERSES];
     factor(bytes, &ends, &overwritten, 2);
     factor(bytes, &ends, &overwritten, 129);
@@ -485,27 +480,10 @@ fn factors_of_four() {
     factor(bytes, &ends, &short, 129);
 }
 
-// All factors of two generators, and numbers that none of them has.
-fn numbers_of_two<'a>(bytes: &'a [u8], ends: &[u16], inverses: &'a [u8]) {
-    factor(bytes, ends, inverses, 0);
-    factor(bytes, ends, inverses, 1);
-    factor(bytes, ends, inverses, 2);
-    factor(bytes, ends, inverses, 64);
-    factor(bytes, ends, inverses, 127);
-    factor(bytes, ends, inverses, 128);
-    factor(bytes, ends, inverses, 129);
-    factor(bytes, ends, inverses, 130);
-    factor(bytes, ends, inverses, 191);
-    factor(bytes, ends, inverses, 255);
-}
-
 // Generators that are not reduced are shown as they are given, their inverses reduced.
 fn factors_of_unreduced() {
-    let bytes = b"RSSSRSSSS";
     let ends = [5u16, 9];
-    let mut inverses = [46u8; INVERSES];
-    large(bytes, &ends, b"", 0, &mut inverses);
-    numbers_of_two(bytes, &ends, &inverses);
+    with_factors(b"RSSSRSSSS", &ends, b"", 0);
 }
 
 // Lists that are refused by questions 7 to 11 have no factor, nor has the empty list.
@@ -537,10 +515,8 @@ fn main() {
     empty_words();
     firsts();
     powers_of_t();
-    long_inverse();
     four_generators();
-    largest_tables();
-    rooms();
+    sixty_four();
     lowest_of_many();
     lowest_of_the_rest();
     factors_of_four();
