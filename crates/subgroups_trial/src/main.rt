@@ -416,7 +416,7 @@ fn lowest_of_many() {
     too_little(&wrong_letters, &wrong_ends, &far_too_many, 1001);
     too_little(&wrong_letters, &wrong_ends, &wrong_letters, 1001);
     let falling = [2u16, 1, 3];
-    too_little(b"XXX", &falling, b"X", 1001);
+    too_little(b"YYY", &falling, b"X", 1001);
     let ends = [4096u16; GENERATORS];
     too_little(&wrong_letters, &ends, &wrong_letters, 1001);
 }
