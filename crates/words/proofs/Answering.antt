@@ -12,8 +12,11 @@ use Rattle.words.specs.Word.{Word, nf}
 use Rattle.words.specs.Bytes.{word, bytes}
 use Rattle.refusals.specs.Questions.{firstOther, question10, question14, ofLetters, ofWord}
 use Rattle.slices.specs.Slices.{overwritten}
-use Rattle.words.specs.Calls.{written, lengthOr, Writes}
+use Rattle.words.specs.Calls.{written, lengthOr, lengthOf, Writes, Reduces}
 use Rattle.words.specs.declared.Letters.{Letters}
+use Rattle.words.specs.declared.Account.{Account}
+use Rattle.words.specs.declared.Reduction.{Reduction}
+use Rattle.words.specs.declared.Reduction.the-variants.{Done, Refused as Reduction·Refused}
 use Rattle.refusals.specs.declared.Refusal.{Refusal}
 use Rattle.refusals.specs.declared.Refusal.the-variants.{OutputTooShort}
 use Rattle.refusals.specs.declared.Asked.{Asked}
@@ -62,24 +65,26 @@ room-enough w = go (ofLetters w) refl
         ∙ asks-yes _ OutputTooShort (le-leb (1 * length w) mostLetters (omega (arith, of-letters-short w e)))
     go (Refused refusal) e = of-word-refused w (1 * length w) mostLetters e
 
-module _ (w before after : List ℕ) (r : Written) (h : Writes nf 1 w before r after) (room : length before ≡ mostLetters) where
+module _ (w before after : List ℕ) (r : Reduction) (h : Reduces w before r after) (room : length before ≡ mostLetters) where
   questions : ofWord w (1 * length w) (length before) ≡ ofLetters w
   questions = ap (ofWord w (1 * length w)) room ∙ room-enough w
 
-  pub reduce-refused : {refusal : Refusal} → r ≡ Written·Refused refusal → ofLetters w ≡ Refused refusal
-  reduce-refused e = sym questions ∙ refused-of-answer (ofWord w (1 * length w) (length before)) (length (nf (word w))) (sym (h .answer) ∙ e)
+  pub reduce-refused : {refusal : Refusal} → r ≡ Reduction·Refused refusal → ofLetters w ≡ Refused refusal
+  reduce-refused e =
+      sym questions ∙ refused-of-answer (ofWord w (1 * length w) (length before)) (length (nf (word w))) (sym (h .writes .answer) ∙ ap lengthOf e)
 
-  module _ {l : Letters} (e : r ≡ Length l) where
-    passed : (ofWord w (1 * length w) (length before) ≡ Passed) × (l .0 ≡ length (nf (word w)))
-    passed = passed-of-answer (ofWord w (1 * length w) (length before)) (length (nf (word w))) (sym (h .answer) ∙ e)
+  module _ {account : Account} (e : r ≡ Done account) where
+    passed : (ofWord w (1 * length w) (length before) ≡ Passed) × (account .kept .0 ≡ length (nf (word w)))
+    passed =
+        passed-of-answer (ofWord w (1 * length w) (length before)) (length (nf (word w))) (sym (h .writes .answer) ∙ ap lengthOf e)
 
     pub reduce-passed : ofLetters w ≡ Passed
     reduce-passed = sym questions ∙ passed .0
 
-    pub reduce-length : l .0 ≡ length (nf (word w))
+    pub reduce-length : account .kept .0 ≡ length (nf (word w))
     reduce-length = passed .1
 
-    pub reduce-form : take (l .0) after ≡ bytes (nf (word w))
+    pub reduce-form : take (account .kept .0) after ≡ bytes (nf (word w))
     reduce-form =
-        ap (take (l .0)) (h .slice ∙ ap (λ (a : Asked). written a (bytes (nf (word w))) before) (passed .0))
-        ∙ take-overwritten (bytes (nf (word w))) before (l .0) (reduce-length ∙ sym (length-bytes (nf (word w))))
+        ap (take (account .kept .0)) (h .writes .slice ∙ ap (λ (a : Asked). written a (bytes (nf (word w))) before) (passed .0))
+        ∙ take-overwritten (bytes (nf (word w))) before (account .kept .0) (reduce-length ∙ sym (length-bytes (nf (word w))))

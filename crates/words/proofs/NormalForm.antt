@@ -105,7 +105,7 @@ arrived-equal w h (back e) = sym (arrived-equal w h e)
 arrived-equal w h (then e f) = arrived-equal w h e ∙ arrived-equal w h f
 
 -- a word, and then a letter: what stands back to front, and then the letter
-reversed-cons : (a : Letter) (w x : Word) → reverse (a ∷ w) ++ x ≡ reverse w ++ a ∷ x
+pub reversed-cons : (a : Letter) (w x : Word) → reverse (a ∷ w) ++ x ≡ reverse w ++ a ∷ x
 reversed-cons a w x = ap (λ (l : Word). l ++ x) (reverse-cons a w) ∙ append-assoc (reverse w) (a ∷ []) x
 
 arrive-equal : (a : Letter) (w x : Word) → Equal (reverse w ++ a ∷ x) (reverse (arrive a w) ++ x)

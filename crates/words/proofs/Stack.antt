@@ -9,7 +9,9 @@ use lib.Seq.{take-suc, take-suc-set, take-take, take-at, length-take-le}
 use Rattle.words.specs.Word.{Letter, R, S, Word, arrive}
 use Rattle.words.specs.Bytes.{byte, bytes, letter, word}
 use Rattle.words.specs.Arrival.{endingOf, below, Held, SomeHeld, Arrives}
+use Rattle.words.specs.declared.arrival.Top.{Top}
 use Rattle.words.proofs.Bytes.{letter-r, letter-s, word-bytes, length-bytes}
+use Rattle.words.proofs.Accounting.{rs-cancel, rs-stay, rs-of-s}
 
 pub below-suc : (s : List ℕ) (k : ℕ) → k < length s → below s (suc k) ≡ letter (getD s k 0) ∷ below s k
 below-suc s k h =
@@ -109,47 +111,54 @@ pushes-first-s s len ending (S ∷ R ∷ w) low h k = absurd (omega (arith, h .e
 pushes-first-s s len ending (S ∷ S ∷ w) low h k = absurd (omega (arith, h .ends))
 
 -- The five ways in which a letter arrives, each by what the code then knows: b is the letter's byte, and `push` and `pop` say what a
--- letter that is pushed, or letters that are popped, leave of the stack s.
-module _ (s : List ℕ) (len ending b : ℕ) (s′ : List ℕ) (len′ ending′ : ℕ) where
+-- letter that is pushed, or letters that are popped, leave of the stack s and its top.
+module _ (s : List ℕ) (top : Top) (b : ℕ) (s′ : List ℕ) (top′ : Top) where
   abbrev Pushes : ℕ → ℕ → Type 0
-  Pushes byte made = (len′ ≡ len + 1) × (ending′ ≡ made) × (s′ ≡ set s len byte)
+  Pushes byte made =
+      ((top′ .len ≡ top .len + 1) × (top′ .ending ≡ made) × (top′ .pairs ≡ top .pairs) × (top′ .triples ≡ top .triples)) × (s′ ≡ set s (top .len) byte)
 
-  abbrev Pops : ℕ → Type 0
-  Pops count = (len′ ≡ len - count) × (ending′ ≡ endingOf (below s (len - count)))
+  abbrev Pops : ℕ → ℕ → ℕ → Type 0
+  Pops count pairs triples =
+      (top′ .len ≡ top .len - count) × (top′ .ending ≡ endingOf (below s (top .len - count))) × (top′ .pairs ≡ pairs) × (top′ .triples ≡ triples)
 
-  pub r-cancels : b ≡ 82 → ending ≡ 1 → Pops 1 → Arrives (letter b ∷ []) s len ending s len′ ending′
-  r-cancels is meets pop =
+  pub r-cancels : b ≡ 82 → top .ending ≡ 1 → 1 ≤ top .len → Pops 1 (top .pairs + 1) (top .triples) → Arrives (letter b ∷ []) s top s top′
+  r-cancels is meets some pop =
       record {
-        held = λ w h. rw (letter-r b is, pop .0, pop .1) (cancels-r s len w (rw meets at h));
-        grows = omega arith;
+        held = λ w h. rw (letter-r b is, pop .0, pop .1) (cancels-r s (top .len) w (rw meets at h));
+        letters = omega arith;
+        rs-gone = λ w h. rw (letter-r b is) (omega (arith, rs-cancel w (sym meets ∙ h .ends)));
       }
 
-  pub r-stays : b ≡ 82 → (ending ≡ 1 → ⊥) → len < length s → Pushes 82 1 → Arrives (letter b ∷ []) s len ending s′ len′ ending′
+  pub r-stays : b ≡ 82 → (top .ending ≡ 1 → ⊥) → top .len < length s → Pushes 82 1 → Arrives (letter b ∷ []) s top s′ top′
   r-stays is meets room push =
       record {
-        held = λ w h. rw (letter-r b is, push .0, push .1, push .2) (pushes-r s len ending w meets h room);
-        grows = omega arith;
+        held = λ w h. rw (letter-r b is, push .0 .0, push .0 .1, push .1) (pushes-r s (top .len) (top .ending) w meets h room);
+        letters = omega arith;
+        rs-gone = λ w h. rw (letter-r b is) (omega (arith, rs-stay w (λ one. meets (h .ends ∙ sym one))));
       }
 
-  pub s-cancels : (b ≡ 82 → ⊥) → ending ≡ 3 → Pops 2 → Arrives (letter b ∷ []) s len ending s len′ ending′
-  s-cancels is meets pop =
+  pub s-cancels : (b ≡ 82 → ⊥) → top .ending ≡ 3 → 2 ≤ top .len → Pops 2 (top .pairs) (top .triples + 1) → Arrives (letter b ∷ []) s top s top′
+  s-cancels is meets some pop =
       record {
-        held = λ w h. rw (letter-s b is, pop .0, pop .1) (cancels-ss s len w (rw meets at h));
-        grows = omega arith;
+        held = λ w h. rw (letter-s b is, pop .0, pop .1) (cancels-ss s (top .len) w (rw meets at h));
+        letters = omega arith;
+        rs-gone = λ w h. rw (letter-s b is) (omega (arith, rs-of-s w));
       }
 
-  pub s-doubles : (b ≡ 82 → ⊥) → ending ≡ 2 → len < length s → Pushes 83 3 → Arrives (letter b ∷ []) s len ending s′ len′ ending′
+  pub s-doubles : (b ≡ 82 → ⊥) → top .ending ≡ 2 → top .len < length s → Pushes 83 3 → Arrives (letter b ∷ []) s top s′ top′
   s-doubles is meets room push =
       record {
-        held = λ w h. rw (letter-s b is, push .0, push .1, push .2) (pushes-second-s s len w (rw meets at h) room);
-        grows = omega arith;
+        held = λ w h. rw (letter-s b is, push .0 .0, push .0 .1, push .1) (pushes-second-s s (top .len) w (rw meets at h) room);
+        letters = omega arith;
+        rs-gone = λ w h. rw (letter-s b is) (omega (arith, rs-of-s w));
       }
 
-  pub s-begins : (b ≡ 82 → ⊥) → ending ≤ 1 → len < length s → Pushes 83 2 → Arrives (letter b ∷ []) s len ending s′ len′ ending′
+  pub s-begins : (b ≡ 82 → ⊥) → top .ending ≤ 1 → top .len < length s → Pushes 83 2 → Arrives (letter b ∷ []) s top s′ top′
   s-begins is meets room push =
       record {
-        held = λ w h. rw (letter-s b is, push .0, push .1, push .2) (pushes-first-s s len ending w meets h room);
-        grows = omega arith;
+        held = λ w h. rw (letter-s b is, push .0 .0, push .0 .1, push .1) (pushes-first-s s (top .len) (top .ending) w meets h room);
+        letters = omega arith;
+        rs-gone = λ w h. rw (letter-s b is) (omega (arith, rs-of-s w));
       }
 
 -- there are four endings, so one that is none of the first three is the last

@@ -1,5 +1,6 @@
 pub mod Word
 pub mod Bytes
 pub mod Parts
+pub mod Account
 pub mod Calls
 pub mod Arrival

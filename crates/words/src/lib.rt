@@ -13,7 +13,8 @@ ghost use Rattle.limits.specs.Limits.{mostLetters, mostOfInverse};
 ghost use Rattle.words.specs.Word.{nf, inverse};
 ghost use Rattle.words.specs.Bytes.{word as wordOf, bytes};
 ghost use Rattle.slices.specs.Slices.{overwritten};
-ghost use Rattle.words.specs.Calls.{Writes, Tests};
+ghost use Rattle.words.specs.Account.{Accounts};
+ghost use Rattle.words.specs.Calls.{Reduces, Writes, Tests};
 
 // A length in letters. It is never added to a length in factors.
 pub struct Letters(pub u16);
@@ -21,7 +22,21 @@ pub struct Letters(pub u16);
 // A length in factors.
 pub struct Factors(pub u16);
 
-// The answer of a call that writes a word: the length written.
+// What became of a word's letters in reduction: how many were kept, and how many pairs RR and triples SSS went. Pairs and triples are counts of their own,
+// and are added neither to letters nor to factors.
+pub struct Account {
+    pub kept: Letters,
+    pub pairs: u16,
+    pub triples: u16,
+}
+
+// The answer of reduction.
+pub enum Reduction {
+    Done(Account),
+    Refused(Refusal),
+}
+
+// The answer of another call that writes a word: the length written.
 pub enum Written {
     Length(Letters),
     Refused(Refusal),
@@ -35,15 +50,15 @@ pub enum Tested {
 }
 
 // Writes the first `len` letters of a stack to the front of `out`.
-fn write_out(stack: &[u8], len: usize, out: &mut [u8]) -> Written
+fn write_out(stack: &[u8], len: usize, out: &mut [u8]) -> Letters
     requires { ⌜ len ≤ length (now stack) ⌝ }
     requires { ⌜ len ≤ length (now out) ⌝ }
     requires { ⌜ len ≤ mostOfInverse ⌝ }
-    ensures { λ r. ⌜ r ≡ Written.Length (record { 0 = len }) ⌝ }
+    ensures { λ r. ⌜ r .0 ≡ len ⌝ }
     ensures { λ _. ⌜ now (out .exit) ≡ overwritten (take len (now (stack .entry))) (now (out .entry)) ⌝ }
 {
     slices::copying::copy_at(&stack[..len], out, 0);
-    Written::Length(Letters(len as u16))
+    Letters(len as u16)
 }
 
 // The letters that a short stack holds: as many as the inverse of a generator that question 11 lets pass may arrive with. Most words are short, and a long
@@ -51,42 +66,49 @@ fn write_out(stack: &[u8], len: usize, out: &mut [u8]) -> Written
 const FEW: usize = 2 * (limits::GENERATOR_LETTERS as usize);
 
 // Writes the normal form of `word` to the front of `out`, by a stack that is lent for its letters.
-fn reduce_on(stack: &mut [u8], word: &[u8], out: &mut [u8]) -> Written
+fn reduce_on(stack: &mut [u8], word: &[u8], out: &mut [u8]) -> Account
     requires { ⌜ length (now word) ≤ length (now stack) ⌝ }
     requires { ⌜ length (now word) ≤ length (now out) ⌝ }
     requires { ⌜ length (now word) ≤ mostLetters ⌝ }
-    ensures { λ r. ⌜ r ≡ Written.Length (record { 0 = length (nf (wordOf (now (word .entry)))) }) ⌝ }
+    ensures { λ r. ⌜ r .kept .0 ≡ length (nf (wordOf (now (word .entry)))) ⌝ }
+    ensures { λ r. ⌜ Accounts (wordOf (now (word .entry))) (nf (wordOf (now (word .entry)))) (r .pairs) (r .triples) ⌝ }
     ensures { λ _. ⌜ now (out .exit) ≡ overwritten (bytes (nf (wordOf (now (word .entry))))) (now (out .entry)) ⌝ }
 {
     let top = arrival::arrive_all(stack, word);
-    write_out(stack, top.len, out)
+    let pairs = top.pairs as u16;
+    let triples = top.triples as u16;
+    Account {
+        kept: write_out(stack, top.len, out),
+        pairs,
+        triples,
+    }
 }
 
 // Writes the normal form of the inverse of `word` to the front of `out`, by a stack that is lent for its letters.
-fn invert_on(stack: &mut [u8], word: &[u8], out: &mut [u8]) -> Written
+fn invert_on(stack: &mut [u8], word: &[u8], out: &mut [u8]) -> Letters
     requires { ⌜ 2 * length (now word) ≤ length (now stack) ⌝ }
     requires { ⌜ 2 * length (now word) ≤ length (now out) ⌝ }
     requires { ⌜ length (now word) ≤ mostLetters ⌝ }
-    ensures { λ r. ⌜ r ≡ Written.Length (record { 0 = length (nf (inverse (wordOf (now (word .entry))))) }) ⌝ }
+    ensures { λ r. ⌜ r .0 ≡ length (nf (inverse (wordOf (now (word .entry))))) ⌝ }
     ensures { λ _. ⌜ now (out .exit) ≡ overwritten (bytes (nf (inverse (wordOf (now (word .entry)))))) (now (out .entry)) ⌝ }
 {
     let top = arrival::arrive_inverse(stack, word);
     write_out(stack, top.len, out)
 }
 
-// Writes the normal form of `word` to the front of `out`.
-pub fn reduce(word: &[u8], out: &mut [u8]) -> Written
-    ensures { λ r. ⌜ Writes nf 1 (now (word .entry)) (now (out .entry)) r (now (out .exit)) ⌝ }
+// Writes the normal form of `word` to the front of `out`, and tells how many pairs and triples went.
+pub fn reduce(word: &[u8], out: &mut [u8]) -> Reduction
+    ensures { λ r. ⌜ Reduces (now (word .entry)) (now (out .entry)) r (now (out .exit)) ⌝ }
 {
     match refusals::of_word(word, word.len(), out.len()) {
-        Asked::Refused(refusal) => Written::Refused(refusal),
+        Asked::Refused(refusal) => Reduction::Refused(refusal),
         Asked::Passed => {
             if word.len() <= FEW {
                 let mut stack = [0u8; FEW];
-                return reduce_on(&mut stack, word, out);
+                return Reduction::Done(reduce_on(&mut stack, word, out));
             }
             let mut stack = [0u8; limits::WORD_LETTERS];
-            reduce_on(&mut stack, word, out)
+            Reduction::Done(reduce_on(&mut stack, word, out))
         }
     }
 }
@@ -100,10 +122,10 @@ pub fn invert(word: &[u8], out: &mut [u8]) -> Written
         Asked::Passed => {
             if 2 * word.len() <= FEW {
                 let mut stack = [0u8; FEW];
-                return invert_on(&mut stack, word, out);
+                return Written::Length(invert_on(&mut stack, word, out));
             }
             let mut stack = [0u8; limits::INVERSE_ROOM];
-            invert_on(&mut stack, word, out)
+            Written::Length(invert_on(&mut stack, word, out))
         }
     }
 }

@@ -1,3 +1,4 @@
+pub mod Accounts
 pub mod Pairs
 pub mod Refused
 pub mod Signed

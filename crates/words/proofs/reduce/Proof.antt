@@ -3,9 +3,8 @@ use mathlib.Core.Path.{sym, _∙_}
 use Prim.Native.Nat.{_≤_}
 use lib.ListN.{length}
 use Rattle.limits.specs.Limits.{mostLetters}
-use Rattle.words.specs.Word.{nf}
 use Rattle.refusals.proofs.Asking.{of-word-passed}
-use Rattle.words.proofs.Writing.{writes-nothing, writes-word}
+use Rattle.words.proofs.Writing.{reduces-nothing, reduces-word}
 use native.Mathlib.Omega.{arith}
 use borrow.Author.Needs.{needs}
 use Rattle.words.proofs.reduce.Statement.{statement}
@@ -42,7 +41,7 @@ returns : tie.Need-returns
 returns c =
     let told = c .before .before .before .before .before .before .before in
     let a = start told .args in
-    writes-word nf 1 (a .word .now) (a .out .now) _ (told .before .before .of-word .result) (omega arith) (told .before .before .of-word .ensures) (told .enum-told .given .1) _ _ (c .before .before .before .reduce-on .ensures)
+    reduces-word (a .word .now) (a .out .now) _ (told .before .before .of-word .result) (omega arith) (told .before .before .of-word .ensures) (told .enum-told .given .1) _ _ (c .before .before .before .reduce-on .ensures)
 
 slice-aggregate-reduce-on-2 : tie.Need-slice-aggregate-reduce-on-2
 slice-aggregate-reduce-on-2 c = search needs
@@ -55,7 +54,7 @@ reduce-on-requires-2 c κs =
 returns-2 : tie.Need-returns-2
 returns-2 c =
     let a = c .before .before .before .before .before .before .args in
-    writes-nothing nf 1 (a .word .now) (a .out .now) _ (c .before .before .before .of-word .result) (omega arith) (c .before .before .before .of-word .ensures) (c .before .refusal .given .1)
+    reduces-nothing (a .word .now) (a .out .now) _ (c .before .before .before .of-word .result) (omega arith) (c .before .before .before .of-word .ensures) (c .before .refusal .given .1)
 
 same-length-2 : tie.Need-same-length-2
 same-length-2 c = search needs
@@ -64,7 +63,7 @@ returns-3 : tie.Need-returns-3
 returns-3 c =
     let told = c .before .before .before .before .before .before .before in
     let a = start told .args in
-    writes-word nf 1 (a .word .now) (a .out .now) _ (told .before .before .of-word .result) (omega arith) (told .before .before .of-word .ensures) (told .enum-told .given .1) _ _ (c .before .before .before .reduce-on2 .ensures)
+    reduces-word (a .word .now) (a .out .now) _ (told .before .before .of-word .result) (omega arith) (told .before .before .of-word .ensures) (told .enum-told .given .1) _ _ (c .before .before .before .reduce-on2 .ensures)
 
 pub reduce-spec : {M : Type 1} → statement M
 reduce-spec =

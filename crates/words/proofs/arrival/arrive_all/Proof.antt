@@ -1,11 +1,12 @@
 -- The letters of a word arrive, its first letter first. What is still to come is the word without its first i letters.
 -- Assumes nothing.
-use mathlib.Core.Path.{_≡_, refl, ap}
+use mathlib.Core.Path.{_≡_, refl, ap, _∙_}
 use mathlib.Core.List.{[], _∷_}
 use Prim.Native.Nat.{_+_, _-_, _≤_}
-use lib.ListN.{length, drop, getD, drop-of-length-le}
+use lib.ListN.{length, drop, getD, drop-of-length-le, length-map}
 use Rattle.words.specs.Bytes.{letter, word as wordOf}
-use Rattle.words.proofs.Arriving.{Arriving, arriving-some, arriving-begins, arriving-more, arriving-ends, rest-of-word}
+use Rattle.words.specs.Arrival.{came}
+use Rattle.words.proofs.Arriving.{Arriving, arriving-some, arriving-begins, arriving-more, arriving-ends, all-came, all-rs-gone, rest-of-word}
 use borrow.Author.Needs.{needs}
 use native.Mathlib.Omega.{arith}
 use Rattle.words.proofs.arrival.arrive_all.Statement.{statement}
@@ -13,7 +14,7 @@ use Rattle.words.proofs.arrival.arrive_all.Tie as tie
 
 abbrev Inv-loop : tie.InvT-loop
 Inv-loop stack₀ word top₀ i₀ stack top i =
-    (i ≤ length word) × (length stack ≡ length stack₀) × (top .len ≤ i) × Arriving stack (top .len) (top .ending) (wordOf (drop i word)) (wordOf word)
+    (i ≤ length word) × (length stack ≡ length stack₀) × (came top ≤ i) × Arriving stack top (wordOf (drop i word)) (wordOf word)
 
 abbrev μ-loop : tie.MeasureT-loop
 μ-loop stack₀ word top₀ i₀ stack top i = length word - i
@@ -29,7 +30,7 @@ shared-slice-read-arrive c = search needs
 arrive-requires : tie.Need-arrive-requires Inv-loop μ-loop
 arrive-requires c κs =
     let l = c .before .before .before .loop in
-    (arriving-some (l .stack) (l .top .len) (l .top .ending) (l .inv .3), omega arith)
+    (arriving-some (l .stack) (l .top) (l .inv .3), omega arith)
 
 add-i : tie.Need-add-i Inv-loop μ-loop
 add-i c = search needs
@@ -44,7 +45,7 @@ loop-again c =
     let m = c .before .before .arrive .ensures in (
       omega arith,
       omega (arith, c .before .before .arrive .kept .0),
-      omega (arith, m .grows),
+      omega (arith, m .letters),
       arriving-more (letter (getD w (l .i) 0) ∷ []) (wordOf (drop (l .i + 1) w)) (rest-of-word w (l .i) (omega arith)) (l .inv .3) m,
     )
 
@@ -54,7 +55,9 @@ same-length c = c .before .loop .inv .1
 returns : tie.Need-returns Inv-loop μ-loop
 returns c =
     let w = c .before .before .before .before .args .word .now in
-    (arriving-ends (ap wordOf (drop-of-length-le w (c .loop-test .left))) (c .before .loop .inv .3), omega arith)
+    let none = ap wordOf (drop-of-length-le w (c .loop-test .left)) in
+    let all = c .before .loop .inv .3 in
+    (arriving-ends none all, (all-came none all ∙ length-map w letter, all-rs-gone none all))
 
 pub arrive-all-spec : {M : Type 1} → statement M
 arrive-all-spec =

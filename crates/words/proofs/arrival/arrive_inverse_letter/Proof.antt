@@ -21,7 +21,7 @@ arrive-requires-2 c κs = search needs
 arrive-requires-3 : tie.Need-arrive-requires-3
 arrive-requires-3 c κs =
     let m = c .before .before .before .arrive2 in
-    (arrives-some (c .before .before .before .before .before .before .before .pre .0) (m .ensures), omega (arith, m .ensures .grows, m .kept .0))
+    (arrives-some (c .before .before .before .before .before .before .before .pre .0) (m .ensures), omega (arith, m .ensures .letters, m .kept .0))
 
 same-length-2 : tie.Need-same-length-2
 same-length-2 c = search needs
