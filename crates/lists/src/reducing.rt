@@ -5,8 +5,8 @@ use slices::copying::copy_at;
 use slices::widening::wide;
 use words::Asked;
 use words::Letters;
+use words::Reduction;
 use words::Refusal;
-use words::Written;
 ghost use mathlib.Core.Path.{_≡_};
 ghost use Prim.Native.Nat.{_+_, _≤_, _<_};
 ghost use lib.ListN.{length, take};
@@ -32,8 +32,8 @@ fn normal_form(bytes: &[u8], from: usize, end: usize, out: &mut [u8], at: usize)
     ensures { λ r. ⌜ now (out .exit) ≡ paste (now (out .entry)) at (bytesOf (nf (word (slice from end (now (bytes .entry)))))) (r .0) ⌝ }
 {
     match words::reduce(&bytes[from..end], &mut out[at..]) {
-        Written::Length(letters) => letters,
-        Written::Refused(_) => Letters(0),
+        Reduction::Done(account) => account.kept,
+        Reduction::Refused(_) => Letters(0),
     }
 }
 

@@ -13,6 +13,7 @@ use limits::WORD_LETTERS;
 use slices::copying::copy_at;
 use words::Asked;
 use words::Letters;
+use words::Reduction;
 use words::Refusal;
 use words::Written;
 ghost use mathlib.Core.Path.{_≡_};
@@ -46,9 +47,9 @@ pub fn word_to_matrix(word: &[u8]) -> Turned
 {
     let mut form = [0u8; WORD_LETTERS];
     match words::reduce(word, &mut form) {
-        Written::Refused(refusal) => Turned::Refused(refusal),
-        Written::Length(letters) => {
-            let len = letters.0 as usize;
+        Reduction::Refused(refusal) => Turned::Refused(refusal),
+        Reduction::Done(account) => {
+            let len = account.kept.0 as usize;
             forming::of_normal_form(&form[..len])
         }
     }

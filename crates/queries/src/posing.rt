@@ -3,6 +3,7 @@ use crate::Posed;
 use trees::Built;
 use words::Asked;
 use words::Letters;
+use words::Reduction;
 use words::Refusal;
 use words::Written;
 ghost use mathlib.Core.Path.{_≡_};
@@ -92,11 +93,11 @@ pub(crate) fn pose_forms(
         })) ⌝ }
 {
     match words::reduce(target, form) {
-        Written::Refused(refusal) => Posed::Refused(refusal),
-        Written::Length(t) => plant(
+        Reduction::Refused(refusal) => Posed::Refused(refusal),
+        Reduction::Done(account) => plant(
             list_letters,
             list_ends,
-            t,
+            account.kept,
             letters,
             rests,
             children_r,

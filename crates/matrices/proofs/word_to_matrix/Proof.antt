@@ -20,17 +20,17 @@ use Rattle.matrices.proofs.word_to_matrix.Statement.{statement}
 use Rattle.matrices.proofs.word_to_matrix.Tie as tie
 
 -- the length that the reduction returned, and the word that it wrote
-short : (c : tie.After-letters) → c .letters .given .0 .0 .0 ≤ length (c .before .before .before .reduce .last .1 .0)
+short : (c : tie.After-account) → c .account .given .0 .0 .kept .0 ≤ length (c .before .before .before .reduce .last .1 .0)
 short c =
     let w = c .before .before .before .before .before .before .args .word .now in
     let r = c .before .before .before .reduce in
-    let p = reduce-passed w _ _ _ (r .ensures) refl (c .letters .given .1) in
-    omega (arith, reduce-length w _ _ _ (r .ensures) refl (c .letters .given .1), nf-length (wordOf w), length-map w letter, of-letters-short w p, r .kept .1 .0)
+    let p = reduce-passed w _ _ _ (r .ensures) refl (c .account .given .1) in
+    omega (arith, reduce-length w _ _ _ (r .ensures) refl (c .account .given .1), nf-length (wordOf w), length-map w letter, of-letters-short w p, r .kept .1 .0)
 
-the-form : (c : tie.After-letters) → wordOf (take (c .letters .given .0 .0 .0) (c .before .before .before .reduce .last .1 .0)) ≡ nf (wordOf (c .before .before .before .before .before .before .args .word .now))
+the-form : (c : tie.After-account) → wordOf (take (c .account .given .0 .0 .kept .0) (c .before .before .before .reduce .last .1 .0)) ≡ nf (wordOf (c .before .before .before .before .before .before .args .word .now))
 the-form c =
     let w = c .before .before .before .before .before .before .args .word .now in
-    ap wordOf (reduce-form w _ _ _ (c .before .before .before .reduce .ensures) refl (c .letters .given .1)) ∙ word-bytes (nf (wordOf w))
+    ap wordOf (reduce-form w _ _ _ (c .before .before .before .reduce .ensures) refl (c .account .given .1)) ∙ word-bytes (nf (wordOf w))
 
 slice-aggregate-reduce : tie.Need-slice-aggregate-reduce
 slice-aggregate-reduce c = search needs
@@ -41,8 +41,8 @@ reduce-requires c κs = search needs
 enum-known-refusal : tie.Need-enum-known-refusal
 enum-known-refusal c = search needs
 
-enum-known-letters : tie.Need-enum-known-letters
-enum-known-letters c = search needs
+enum-known-account : tie.Need-enum-known-account
+enum-known-account c = search needs
 
 cast-len : tie.Need-cast-len
 cast-len c = search needs
@@ -52,7 +52,7 @@ array-share-prefix-form c = short (c .before .before)
 
 slice-aggregate-of-normal-form : tie.Need-slice-aggregate-of-normal-form
 slice-aggregate-of-normal-form c =
-    sym (length-take-le (c .before .before .before .letters .given .0 .0 .0) (c .before .before .before .before .before .before .reduce .last .1 .0) (short (c .before .before .before)))
+    sym (length-take-le (c .before .before .before .account .given .0 .0 .kept .0) (c .before .before .before .before .before .before .reduce .last .1 .0) (short (c .before .before .before)))
 
 of-normal-form-requires : tie.Need-of-normal-form-requires
 of-normal-form-requires c κs =
@@ -68,7 +68,7 @@ returns c =
 returns-2 : tie.Need-returns-2
 returns-2 c =
     let w = c .before .before .before .before .before .before .before .before .before .before .args .word .now in
-    let p = reduce-passed w _ _ _ (c .before .before .before .before .before .before .before .reduce .ensures) refl (c .before .before .before .before .letters .given .1) in
+    let p = reduce-passed w _ _ _ (c .before .before .before .before .before .before .before .reduce .ensures) refl (c .before .before .before .before .account .given .1) in
     c .of-normal-form .ensures
     ∙ ap (λ (x : Word). matrixOr (ofForm x) (signed (matrixOf x))) (the-form (c .before .before .before .before))
     ∙ ap (λ (m : Matrix). matrixOr (ofForm (nf (wordOf w))) m) (signed-nf w)
@@ -81,7 +81,7 @@ word-to-matrix-spec =
     slice-aggregate-reduce
     reduce-requires
     enum-known-refusal
-    enum-known-letters
+    enum-known-account
     cast-len
     array-share-prefix-form
     slice-aggregate-of-normal-form

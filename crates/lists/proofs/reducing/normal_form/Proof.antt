@@ -1,5 +1,7 @@
 -- The questions of reduction are all answered yes. Assumes nothing.
+use mathlib.Core.Path.{ap}
 use Rattle.words.specs.Word.{nf}
+use Rattle.words.specs.Calls.{lengthOf}
 use Rattle.lists.proofs.NormalForms.{form-written, not-refused}
 use native.Mathlib.Omega.{arith}
 use borrow.Author.Needs.{needs}
@@ -27,8 +29,8 @@ part-reduce-end-2 c = search needs
 reduce-requires : tie.Need-reduce-requires
 reduce-requires c κs = search needs
 
-enum-known-letters : tie.Need-enum-known-letters
-enum-known-letters c = search needs
+enum-known-account : tie.Need-enum-known-account
+enum-known-account c = search needs
 
 enum-told : tie.Need-enum-told
 enum-told c = search needs
@@ -38,12 +40,12 @@ same-length c = search needs
 
 returns : tie.Need-returns
 returns c =
-    let s = c .before .before .before .before .before .before .before .before .before .before in
+    let s = c .before .before .before .before .before .before .before .before .before .before .before in
     let a = s .args in
     let p = s .pre in
-    let m = c .before .before .before .before .before .reduce in
-    form-written nf 1 (a .bytes .now) (a .from) (a .end) (a .out .now) (a .at) (m .result) (m .last .1 .0) (p .0) (p .1 .0) (p .1 .1 .0) (p .1 .1 .1 .0) (omega arith) (m .ensures)
-    (c .before .letters .given .1)
+    let m = c .before .before .before .before .before .before .reduce in
+    form-written nf 1 (a .bytes .now) (a .from) (a .end) (a .out .now) (a .at) (lengthOf (m .result)) (m .last .1 .0) (p .0) (p .1 .0) (p .1 .1 .0) (p .1 .1 .1 .0) (omega arith) (m .ensures .writes)
+    (ap lengthOf (c .before .before .account .given .1))
 
 same-length-2 : tie.Need-same-length-2
 same-length-2 c = search needs
@@ -54,7 +56,7 @@ returns-2 c =
     let a = s .args in
     let p = s .pre in
     let m = c .before .before .before .before .reduce in
-    absurd (not-refused nf 1 (a .bytes .now) (a .from) (a .end) (a .out .now) (a .at) (m .result) (m .last .1 .0) (p .0) (p .1 .0) (p .1 .1 .0) (p .1 .1 .1 .0) (omega arith) (m .ensures) _ (c .enum-told .given .1))
+    absurd (not-refused nf 1 (a .bytes .now) (a .from) (a .end) (a .out .now) (a .at) (lengthOf (m .result)) (m .last .1 .0) (p .0) (p .1 .0) (p .1 .1 .0) (p .1 .1 .1 .0) (omega arith) (m .ensures .writes) _ (ap lengthOf (c .enum-told .given .1)))
 
 pub normal-form-spec : {M : Type 1} → statement M
 normal-form-spec =
@@ -67,7 +69,7 @@ normal-form-spec =
     part-reduce-start-2
     part-reduce-end-2
     reduce-requires
-    enum-known-letters
+    enum-known-account
     enum-told
     same-length
     returns

@@ -1,5 +1,5 @@
 -- The target is reduced, which is not refused, and beside its form the tree is planted. Assumes nothing.
-use mathlib.Core.Path.{_≡_, sym, subst, _∙_}
+use mathlib.Core.Path.{_≡_, sym, ap, subst, _∙_}
 use mathlib.Core.List.{List}
 use Prim.Native.Nat.{ℕ, _*_, _≤_}
 use lib.ListN.{length}
@@ -7,6 +7,7 @@ use borrow.Author.Tests.{le-leb}
 use Rattle.limits.specs.Limits.{mostLetters}
 use Rattle.words.specs.Word.{nf}
 use Rattle.words.specs.Bytes.{word}
+use Rattle.words.specs.Calls.{lengthOf}
 use Rattle.refusals.specs.Questions.{ofLetters, ofWord}
 use Rattle.refusals.specs.declared.Refusal.the-variants.{OutputTooShort}
 use Rattle.refusals.specs.declared.Asked.{Asked}
@@ -23,10 +24,10 @@ use Rattle.queries.proofs.posing.pose_forms.Tie as tie
 abbrev begun : tie.After-reduce → tie.Start
 begun c = c .before .before .before .before .before .before .before .before .before .before .before
 
-abbrev reduced : tie.After-t → tie.After-reduce
+abbrev reduced : tie.After-account → tie.After-reduce
 reduced c = c .before .before .before .before
 
-abbrev told : tie.After-plant → tie.After-t
+abbrev told : tie.After-plant → tie.After-account
 told c = c .before .before .before .before .before .before .before
 
 -- a target that has passed questions 8 and 10 passes question 14 as well, where there is room for all that they let pass
@@ -47,8 +48,8 @@ reduce-requires c κs = search needs
 enum-known-refusal : tie.Need-enum-known-refusal
 enum-known-refusal c = search needs
 
-enum-known-t : tie.Need-enum-known-t
-enum-known-t c = search needs
+enum-known-account : tie.Need-enum-known-account
+enum-known-account c = search needs
 
 plant-requires : tie.Need-plant-requires
 plant-requires c κs = search needs
@@ -61,7 +62,7 @@ returns c =
     let r = c .before .before .before .before .before in
     let s = begun r in
     λ reduced passed.
-    absurd (passed-not-refused (sym (refused-of-answer (questions s) (length (nf (word (s .args .target .now)))) (sym (r .reduce .ensures .answer) ∙ c .before .refusal .given .1)) ∙ asked s passed))
+    absurd (passed-not-refused (sym (refused-of-answer (questions s) (length (nf (word (s .args .target .now)))) (sym (r .reduce .ensures .writes .answer) ∙ ap lengthOf (c .before .refusal .given .1))) ∙ asked s passed))
 
 same-length-2 : tie.Need-same-length-2
 same-length-2 c = search needs
@@ -91,7 +92,7 @@ returns-2 c =
     let a = s .args in
     λ reduced-list passed.
     record {
-      form = writes-front nf 1 (a .target .now) (a .form .now) (r .reduce .result) _ (r .reduce .ensures) (asked s passed);
+      form = writes-front nf 1 (a .target .now) (a .form .now) (lengthOf (r .reduce .result)) _ (r .reduce .ensures .writes) (asked s passed);
       tree =
           subst
           (λ (form : ℕ).
@@ -110,7 +111,7 @@ returns-2 c =
             childrenS = p .last .1 .1 .1 .1 .1 .1 .0;
             wholes = p .last .1 .1 .1 .1 .1 .1 .1 .0;
           }))
-          (passed-of-answer (questions s) (length (nf (word (a .target .now)))) (sym (r .reduce .ensures .answer) ∙ t .t .given .1) .1) (p .ensures reduced-list);
+          (passed-of-answer (questions s) (length (nf (word (a .target .now)))) (sym (r .reduce .ensures .writes .answer) ∙ ap lengthOf (t .account .given .1)) .1) (p .ensures reduced-list);
     }
 
 pub pose-forms-spec : {M : Type 1} → statement M
@@ -119,7 +120,7 @@ pose-forms-spec =
     (tie.spec
     reduce-requires
     enum-known-refusal
-    enum-known-t
+    enum-known-account
     plant-requires
     same-length
     returns
