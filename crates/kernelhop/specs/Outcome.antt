@@ -1,4 +1,4 @@
--- How the calls' answers are told to a caller in another language: by two numbers. Assumes nothing: these are definitions.
+-- How the calls' answers are told to a caller in another language: by two numbers, and a reduction's by four. Assumes nothing: these are definitions.
 use mathlib.Core.List.{List, [], _∷_}
 use Prim.Native.Nat.{ℕ}
 use lib.IntN.{ℤ}
@@ -6,6 +6,8 @@ use Rattle.refusals.specs.Telling.{pick}
 use Rattle.refusals.specs.Questions.{number, place}
 use Rattle.words.specs.declared.Factors.{Factors}
 use Rattle.refusals.specs.declared.Refusal.{Refusal}
+use Rattle.words.specs.declared.Reduction.{Reduction as words·Reduction}
+use Rattle.words.specs.declared.Reduction.the-variants.{Done, Refused as Reduction·Refused}
 use Rattle.words.specs.declared.Written.{Written}
 use Rattle.words.specs.declared.Written.the-variants.{Length, Refused as Written·Refused}
 use Rattle.words.specs.declared.Tested.{Tested}
@@ -21,6 +23,7 @@ use Rattle.answers.specs.declared.Answer.{Answer}
 use Rattle.answers.specs.declared.Answer.the-variants.{Member as Answer·Member, None as Answer·None, Refused as Answer·Refused}
 use Rattle.kernelhop.specs.declared.Outcome.{Outcome}
 use Rattle.kernelhop.specs.declared.Part.{Part}
+use Rattle.kernelhop.specs.declared.Reduction.{Reduction}
 
 -- a refusal by document 01's number, from 1 to 16, and its place
 abbrev pub ofRefusal : Refusal → Outcome
@@ -33,6 +36,11 @@ yes value = record { number = 0; value = value }
 -- none: 255 and n
 abbrev pub no : ℕ → Outcome
 no n = record { number = 255; value = n }
+
+-- what was kept, and how many pairs and triples went; a refusal has 0 for both
+abbrev pub ofReduction : words·Reduction → Reduction
+ofReduction (Done account) = record { number = 0; pairs = account .pairs; triples = account .triples; value = account .kept .0 }
+ofReduction (Reduction·Refused refusal) = record { number = number refusal; pairs = 0; triples = 0; value = place refusal }
 
 abbrev pub ofWritten : Written → Outcome
 ofWritten (Length letters) = yes (letters .0)

@@ -7,7 +7,8 @@ use words::Factors;
 ghost use mathlib.Core.Path.{_≡_};
 ghost use lib.ListN.{length};
 ghost use Rattle.words.specs.Word.{nf, inverse};
-ghost use Rattle.words.specs.Calls.{Writes, Tests};
+ghost use Rattle.words.specs.Calls.{Reduces, Writes, Tests};
+ghost use Rattle.words.specs.declared.Reduction.{Reduction as words·Reduction};
 ghost use Rattle.words.specs.declared.Written.{Written};
 ghost use Rattle.words.specs.declared.Tested.{Tested};
 ghost use Rattle.matrices.specs.Calls.{TurnsWord, TurnsMatrix};
@@ -21,13 +22,22 @@ ghost use Rattle.reach.specs.declared.Reached.{Reached};
 ghost use Rattle.answers.specs.declared.Answer.{Answer};
 ghost use Rattle.cards.specs.Calls.{AnswersCard};
 ghost use Rattle.kernelhop.specs.Release.{release};
-ghost use Rattle.kernelhop.specs.Outcome.{ofWritten, ofTested, ofTurned, entriesOr, ofVerdict, ofPart, ofReached, ofAnswer};
+ghost use Rattle.kernelhop.specs.Outcome.{ofReduction, ofWritten, ofTested, ofTurned, entriesOr, ofVerdict, ofPart, ofReached, ofAnswer};
 
 // An answer: 0, and the length written, 1 for a normal word and 0 for another, the count of a member, 1 for a target that is reachable, or 0 for a matrix.
 // None: 255, and n; not reachable: 255, and 0. A refusal: the question's number, from 1 to 16, and its place.
 #[repr(C)]
 pub struct Outcome {
     pub number: u8,
+    pub value: usize,
+}
+
+// An answer of reduction: 0, the length written, and how many pairs RR and triples SSS went. A refusal: the question's number, its place, and 0 for both.
+#[repr(C)]
+pub struct Reduction {
+    pub number: u8,
+    pub pairs: u16,
+    pub triples: u16,
     pub value: usize,
 }
 
@@ -42,17 +52,17 @@ pub struct Part {
 // Which release this library is, as one number (`release` of specs/). It has its one home here, in the promise and in the code: whoever else needs it asks.
 #[no_mangle]
 pub extern "C" fn kernelhop_version() -> u32
-    ensures { λ r. ⌜ r ≡ release 1 4 0 ⌝ }
+    ensures { λ r. ⌜ r ≡ release 1 5 0 ⌝ }
 {
-    10_400
+    10_500
 }
 
 // The same as words::reduce.
 #[no_mangle]
-pub extern "C" fn kernelhop_reduce(word: &[u8], out: &mut [u8]) -> Outcome
-    ensures { λ r. ⌜ ((w : Written) × Writes nf 1 (now (word .entry)) (now (out .entry)) w (now (out .exit)) × (r ≡ ofWritten w)) ⌝ }
+pub extern "C" fn kernelhop_reduce(word: &[u8], out: &mut [u8]) -> Reduction
+    ensures { λ r. ⌜ ((w : words·Reduction) × Reduces (now (word .entry)) (now (out .entry)) w (now (out .exit)) × (r ≡ ofReduction w)) ⌝ }
 {
-    telling::written(words::reduce(word, out))
+    telling::reduction(words::reduce(word, out))
 }
 
 // The same as words::invert.

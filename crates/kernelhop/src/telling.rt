@@ -1,6 +1,7 @@
-// An answer told by two numbers.
+// An answer told by numbers: two, or four for a reduction.
 use crate::Outcome;
 use crate::Part;
+use crate::Reduction;
 use answers::Answer;
 use engine::Verdict;
 use reach::Reached;
@@ -9,7 +10,7 @@ use words::Refusal;
 use words::Tested;
 use words::Written;
 ghost use mathlib.Core.Path.{_≡_};
-ghost use Rattle.kernelhop.specs.Outcome.{ofRefusal, ofWritten, ofTested, ofVerdict, ofPart, ofReached, ofAnswer};
+ghost use Rattle.kernelhop.specs.Outcome.{ofRefusal, ofReduction, ofWritten, ofTested, ofVerdict, ofPart, ofReached, ofAnswer};
 
 // The number that stands for none, and for a no: no question has it.
 const NONE: u8 = 255;
@@ -23,6 +24,25 @@ pub(crate) fn refusal(refusal: Refusal) -> Outcome
     Outcome {
         number: refusals::number(refusal),
         value: refusals::place(refusal),
+    }
+}
+
+pub(crate) fn reduction(answer: words::Reduction) -> Reduction
+    ensures { λ r. ⌜ r ≡ ofReduction answer ⌝ }
+{
+    match answer {
+        words::Reduction::Done(account) => Reduction {
+            number: 0,
+            pairs: account.pairs,
+            triples: account.triples,
+            value: account.kept.0 as usize,
+        },
+        words::Reduction::Refused(why) => Reduction {
+            number: refusals::number(why),
+            pairs: 0,
+            triples: 0,
+            value: refusals::place(why),
+        },
     }
 }
 
