@@ -1,5 +1,7 @@
 // Worked values and edges of the calls on words, one line each: the call, the answer, and the first bytes of the lent slice, which
 // was full of dots. What it must print stands in `stdout`.
+use words::Letters;
+use words::Reduction;
 use words::Tested;
 use words::Written;
 ghost use mathlib.Core.Path.{_≡_};
@@ -11,45 +13,64 @@ ghost use Rattle.refusals.specs.Questions.{ofWord};
 ghost use Rattle.words.specs.Calls.{written};
 ghost use Rattle.words_trial.specs.Period.{byteIn, nextColumn, withS};
 
-fn print_written(answer: Written) {
-    match answer {
-        Written::Length(letters) => {
-            io::write_all(1, b"length ");
-            io::print_decimal(1, letters.0 as u64);
-        }
-        Written::Refused(refusal) => showing::refusal(refusal),
-    }
-}
-
-fn print_line(call: &[u8], word: &[u8], answer: Written, out: &[u8]) {
+fn print_call(call: &[u8], word: &[u8]) {
     io::write_all(1, call);
     io::write_all(1, b" '");
     showing::word(word);
     io::write_all(1, b"': ");
-    print_written(answer);
+}
+
+fn print_length(letters: Letters) {
+    io::write_all(1, b"length");
+    showing::number(letters.0);
+}
+
+fn print_slice(out: &[u8]) {
     io::write_all(1, b", '");
     showing::word(out);
     io::write_all(1, b"'\n");
+}
+
+fn print_reduction(answer: Reduction) {
+    match answer {
+        Reduction::Done(account) => {
+            print_length(account.kept);
+            io::write_all(1, b", pairs");
+            showing::number(account.pairs);
+            io::write_all(1, b", triples");
+            showing::number(account.triples);
+        }
+        Reduction::Refused(refusal) => showing::refusal(refusal),
+    }
+}
+
+fn print_written(answer: Written) {
+    match answer {
+        Written::Length(letters) => print_length(letters),
+        Written::Refused(refusal) => showing::refusal(refusal),
+    }
 }
 
 fn reduce(word: &[u8], out: &mut [u8])
     ensures { λ _. ⌜ now (out .exit) ≡ written (ofWord (now (word .entry)) (1 * length (now (word .entry))) (length (now (out .entry)))) (bytes (nf (wordOf (now (word .entry))))) (now (out .entry)) ⌝ }
 {
     let answer = words::reduce(word, out);
-    print_line(b"reduce", word, answer, out);
+    print_call(b"reduce", word);
+    print_reduction(answer);
+    print_slice(out);
 }
 
 fn invert(word: &[u8], out: &mut [u8])
     ensures { λ _. ⌜ now (out .exit) ≡ written (ofWord (now (word .entry)) (2 * length (now (word .entry))) (length (now (out .entry)))) (bytes (nf (inverse (wordOf (now (word .entry)))))) (now (out .entry)) ⌝ }
 {
     let answer = words::invert(word, out);
-    print_line(b"invert", word, answer, out);
+    print_call(b"invert", word);
+    print_written(answer);
+    print_slice(out);
 }
 
 fn is_normal(word: &[u8]) {
-    io::write_all(1, b"is_normal '");
-    showing::word(word);
-    io::write_all(1, b"': ");
+    print_call(b"is_normal", word);
     match words::is_normal(word) {
         Tested::Normal => {
             io::write_all(1, b"yes");
@@ -168,6 +189,7 @@ fn main() {
     short(b"SSS");
     short(b"SSSS");
     short(b"RSSSR");
+    short(b"SRRSS");
     short(b"SR");
     short(b"SSR");
     short(b"RSSRS");
