@@ -1,10 +1,11 @@
-"""A model of document 01, "Bounded products in the modular group", and of 02's change requests so far (M-100, M-101, M-103; M-102 asks for nothing that a
-caller sees), written from their sentences alone and sharing nothing with the engine.
+"""A model of document 01, "Bounded products in the modular group", and of 02's change requests so far (M-100, M-101, M-103, M-104; M-102 asks for nothing
+that a caller sees), written from their sentences alone and sharing nothing with the engine.
 
-It is slow and plain on purpose. A word is reduced by erasing, a matrix has unlimited integers, the word of a matrix is read off the
-Stern-Brocot tree, and a verdict comes from a walk of the group, product by product; one without a bound comes from an automaton that reads the products.
-Words are bytes, a matrix (a b; c d) is (a, b, c, d).
+It is slow and plain on purpose. A word is reduced by erasing, a pair or a triple at a time, and each is counted; a matrix has unlimited integers, the word of
+a matrix is read off the Stern-Brocot tree, and a verdict comes from a walk of the group, product by product; one without a bound comes from an automaton that
+reads the products. Words are bytes, a matrix (a b; c d) is (a, b, c, d).
 
+    erased                                  reduction: what is left of a word, and how many pairs and triples were erased
     normal_form, inverse, matrix, powers    the elements: words, matrices, and the word of a matrix
     first_series                            the verdict's mathematics: a walk, level by level, that keeps the first series of each element
     is_product                              the same without a bound: an automaton of loops, closed under the rules
@@ -20,19 +21,35 @@ import functools
 import itertools
 import operator
 import re
+from typing import NamedTuple
 
 # ---- words
 
 RULES = re.compile(b"RR|SSS")
 
 
+class Erased(NamedTuple):
+    """What is left of a word, and how many RR and how many SSS were erased."""
+
+    form: bytes
+    pairs: int
+    triples: int
+
+
+def erased(word):
+    """The first RR or SSS is erased until there is none, and each is counted when it goes."""
+    pairs = triples = 0
+    while found := RULES.search(word):
+        if found.group() == b"RR":
+            pairs += 1
+        else:
+            triples += 1
+        word = word[: found.start()] + word[found.end() :]
+    return Erased(word, pairs, triples)
+
+
 def normal_form(word):
-    """The first RR or SSS is erased until there is none."""
-    while True:
-        shorter = RULES.sub(b"", word, count=1)
-        if shorter == word:
-            return word
-        word = shorter
+    return erased(word).form
 
 
 def inverse(word):
@@ -252,7 +269,7 @@ def reduced(word, room):
     ask(8, len(word) <= 4096)
     ask_letters(word)
     ask(14, room >= len(word))
-    return normal_form(word)
+    return erased(word)
 
 
 def inverted(word, room):

@@ -1,6 +1,6 @@
 #!/usr/bin/env python3
-"""Tests of trials/model.py: document 01's worked values P1 to P12 and edges, the laws that its ways of computing rest on, the first of the least series,
-verdicts without a bound, lists taken as subgroups, and each question."""
+"""Tests of trials/model.py: document 01's worked values P1 to P12 and edges, the laws that its ways of computing rest on, the pairs and triples that are
+erased, the first of the least series, verdicts without a bound, lists taken as subgroups, and each question."""
 
 import itertools
 import os
@@ -63,8 +63,8 @@ class Asking(unittest.TestCase):
 
 class WorkedValues(unittest.TestCase):
     def test_p1_to_p4(self):
-        for word, form in ((b"RR", b""), (b"SSS", b""), (b"SSSS", b"S"), (b"RSSSR", b"")):
-            self.assertEqual(model.reduced(word, len(word)), form)
+        for word, *expected in ((b"RR", b"", 1, 0), (b"SSS", b"", 0, 1), (b"SSSS", b"S", 0, 1), (b"RSSSR", b"", 1, 1)):
+            self.assertEqual(model.reduced(word, len(word)), tuple(expected))
         self.assertEqual(model.inverted(b"SR", 4), b"RSS")
 
     def test_p5_to_p7(self):
@@ -114,11 +114,47 @@ class Edges(Asking):
 class Laws(unittest.TestCase):
     """What a group theorist would ask of the model before believing its walk."""
 
-    def test_erasing_in_any_order_gives_one_normal_form(self):
+    def test_erasing_in_any_order_gives_one_normal_form_and_the_same_counts(self):
+        """Whichever pair or triple of a word goes first, what is left has the word's normal form, and lacks just the one that went."""
         for word in words(10):
-            for place, rule in itertools.product(range(len(word)), (b"RR", b"SSS")):
+            form, pairs, triples = model.erased(word)
+            lacking = {b"RR": (form, pairs - 1, triples), b"SSS": (form, pairs, triples - 1)}
+            for place, rule in itertools.product(range(len(word)), lacking):
                 if word.startswith(rule, place):
-                    self.assertEqual(model.normal_form(word[:place] + word[place + len(rule) :]), model.normal_form(word))
+                    self.assertEqual(model.erased(word[:place] + word[place + len(rule) :]), lacking[rule])
+
+    def test_counts_of_random_orders(self):
+        """Words that are erased to the end in an order that is drawn."""
+        chance = random.Random(7)
+        for _ in range(200):
+            word = left = bytes(chance.choices(b"RS", k=chance.randint(0, 60)))
+            gone = {b"RR": 0, b"SSS": 0}
+            while ways := [(place, rule) for place in range(len(left)) for rule in gone if left.startswith(rule, place)]:
+                place, rule = chance.choice(ways)
+                left = left[:place] + left[place + len(rule) :]
+                gone[rule] += 1
+            self.assertEqual(model.erased(word), (left, gone[b"RR"], gone[b"SSS"]))
+
+    def test_counts_are_fixed_by_the_two_words(self):
+        """Two equations hold, of the letters and of the R's, and of no other two counts."""
+        for word in words(10):
+            form, *counts = model.erased(word)
+            letters, rs = len(word) - len(form), word.count(b"R") - form.count(b"R")
+            both = [[p, t] for p, t in itertools.product(range(6), repeat=2) if 2 * p + 3 * t == letters and 2 * p == rs]
+            self.assertEqual(both, [counts])
+
+    def test_letters_that_meet_late(self):
+        """Triples whose letters meet only when pairs have gone, a pair that meets only when a triple has, and as many as there can be of each."""
+        for word, *expected in (
+            (b"", b"", 0, 0),
+            (b"SSRSRSS", b"SSRSRSS", 0, 0),
+            (b"SRRSRRS", b"", 2, 1),
+            (b"SSRSSSRS", b"", 1, 2),
+            (b"RSRRSRRSSR", b"RSR", 2, 1),
+            (b"R" * 4096, b"", 2048, 0),
+            (b"S" * 4096, b"S", 0, 1365),
+        ):
+            self.assertEqual(model.erased(word), tuple(expected))
 
     def test_inverse(self):
         for word in words(8):
@@ -409,8 +445,8 @@ class Parts(unittest.TestCase):
 
 class Questions(Asking):
     def test_words(self):
-        for call, factor in ((model.reduced, 1), (model.inverted, 2)):
-            self.assertEqual(call(b"R" * 4096, factor * 4096), b"")
+        for call, factor, nothing in ((model.reduced, 1, (b"", 2048, 0)), (model.inverted, 2, b"")):
+            self.assertEqual(call(b"R" * 4096, factor * 4096), nothing)
             self.assert_refused(8, 0, call, b"X" * 4097, 0)
             self.assert_refused(10, 1, call, b"RXX", 0)
             self.assert_refused(14, 0, call, b"RR", factor * 2 - 1)

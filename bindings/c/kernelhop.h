@@ -42,13 +42,24 @@ enum {
     KERNELHOP_STACK = 131072
 };
 
-/* The release that is linked: 10,000 times its major number, 100 times its minor one, and its patch number. So release 1.4.0 is 10400, and a later
+/* The release that is linked: 10,000 times its major number, 100 times its minor one, and its patch number. So release 1.5.0 is 10500, and a later
    release has a larger number. */
 uint32_t kernelhop_version(void);
 
-/* Writes the normal form of the word to the front of `out`; value is its length. The bytes behind it remain.
+/* number 0: an answer. value is the length of the normal form, pairs says how many RR went, and triples how many SSS.
+   number 8, 10 or 14: refused by that question; value is the place that it names, or 0, and pairs and triples are 0. */
+struct kernelhop_reduction {
+    uint8_t number;
+    uint16_t pairs;
+    uint16_t triples;
+    size_t value;
+};
+
+/* Writes the normal form of the word to the front of `out`, and says how much was cancelled on the way. The bytes behind the normal form remain.
+   word_len is value + 2 * pairs + 3 * triples, and the R's of the word, less those of its normal form, are 2 * pairs. So both counts are fixed by the
+   two words, in whatever order the pairs and the triples are erased.
    Asks: 8, at most 4,096 letters; 10, every letter R or S (place: the first that is not); 14, out_len at least word_len. */
-struct kernelhop_outcome kernelhop_reduce(const uint8_t *word, size_t word_len, uint8_t *out, size_t out_len);
+struct kernelhop_reduction kernelhop_reduce(const uint8_t *word, size_t word_len, uint8_t *out, size_t out_len);
 
 /* Writes the normal form of the word's inverse to the front of `out`; value is its length. The bytes behind it remain.
    Asks: 8 and 10 as reduction does; 14, out_len at least twice word_len. */

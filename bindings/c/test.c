@@ -24,8 +24,18 @@ static int is(struct kernelhop_outcome outcome, int number, size_t value) {
     return outcome.number == number && outcome.value == value;
 }
 
-static struct kernelhop_outcome reduce(const char *word, char *out, size_t out_len) {
+static struct kernelhop_reduction reduce(const char *word, char *out, size_t out_len) {
     return kernelhop_reduce((const uint8_t *)word, strlen(word), (uint8_t *)out, out_len);
+}
+
+/* A reduction that answers: the length of the normal form, and the pairs and triples that went. */
+static int accounts(struct kernelhop_reduction reduction, size_t length, int pairs, int triples) {
+    return reduction.number == 0 && reduction.value == length && reduction.pairs == pairs && reduction.triples == triples;
+}
+
+/* A reduction that refuses counts nothing. */
+static int refuses(struct kernelhop_reduction reduction, int number, size_t place) {
+    return reduction.number == number && reduction.value == place && reduction.pairs == 0 && reduction.triples == 0;
 }
 
 static struct kernelhop_outcome invert(const char *word, char *out, size_t out_len) {
@@ -41,26 +51,70 @@ static struct kernelhop_outcome word_to_matrix(const char *word, int64_t out[4])
 }
 
 static void version(void) {
-    CHECK(kernelhop_version() >= 10400);
+    CHECK(kernelhop_version() >= 10500);
 }
 
 static void words(void) {
     char out[16] = "xxxxxxxxxxxxxxx";
-    CHECK(is(reduce("RR", out, 2), 0, 0) && out[0] == 'x');
-    CHECK(is(reduce("SSSS", out, 16), 0, 1) && memcmp(out, "Sx", 2) == 0);
+    CHECK(accounts(reduce("RR", out, 2), 0, 1, 0) && out[0] == 'x');
+    CHECK(accounts(reduce("SSSS", out, 16), 1, 0, 1) && memcmp(out, "Sx", 2) == 0);
     CHECK(is(invert("SR", out, 16), 0, 3) && memcmp(out, "RSSx", 4) == 0);
-    CHECK(is(reduce("SRTS", out, 16), 10, 2));
-    CHECK(is(reduce("SRS", out, 2), 14, 0));
+    /* A refusal counts nothing, though a pair stands in the word. */
+    CHECK(refuses(reduce("RRSSSTS", out, 16), 10, 5));
+    CHECK(refuses(reduce("RRS", out, 2), 14, 0));
     CHECK(is(invert("SR", out, 3), 14, 0));
     CHECK(memcmp(out, "RSSxxxxxxxxxxxx", 15) == 0);
-    CHECK(is(kernelhop_reduce(NULL, 0, NULL, 0), 0, 0));
+    CHECK(accounts(kernelhop_reduce(NULL, 0, NULL, 0), 0, 0, 0));
     CHECK(is(kernelhop_invert(NULL, 0, NULL, 0), 0, 0));
+}
 
+static void letters_that_went(void) {
+    char out[16] = "xxxxxxxxxxxxxxx";
+    /* A normal word is kept whole. */
+    CHECK(accounts(reduce("SSRSRSS", out, 16), 7, 0, 0) && memcmp(out, "SSRSRSSx", 8) == 0);
+    CHECK(accounts(reduce("SSS", out, 16), 0, 0, 1));
+    CHECK(accounts(reduce("RRRRR", out, 16), 1, 2, 0) && out[0] == 'R');
+    CHECK(accounts(reduce("SSSSSSSS", out, 16), 2, 0, 2) && memcmp(out, "SS", 2) == 0);
+    /* A pair that meets only when a triple has gone, and triples whose letters meet only when pairs have. */
+    CHECK(accounts(reduce("RSSSR", out, 16), 0, 1, 1));
+    CHECK(accounts(reduce("SRRSRRS", out, 16), 0, 2, 1));
+    CHECK(accounts(reduce("SSRSSSRS", out, 16), 0, 1, 2));
+    CHECK(accounts(reduce("RSRRSRRSSR", out, 16), 3, 2, 1) && memcmp(out, "RSR", 3) == 0);
+
+    /* As many as there can be of each. */
     static uint8_t many[4097];
     static uint8_t room[4097];
+    memset(many, 'R', sizeof many);
+    CHECK(accounts(kernelhop_reduce(many, 4096, room, 4096), 0, 2048, 0));
+    CHECK(refuses(kernelhop_reduce(many, 4097, room, 4097), 8, 0));
     memset(many, 'S', sizeof many);
-    CHECK(is(kernelhop_reduce(many, 4096, room, 4096), 0, 1));
-    CHECK(is(kernelhop_reduce(many, 4097, room, 4097), 8, 0));
+    CHECK(accounts(kernelhop_reduce(many, 4096, room, 4096), 1, 0, 1365) && room[0] == 'S');
+    CHECK(refuses(kernelhop_reduce(many, 4097, room, 4097), 8, 0));
+}
+
+static size_t rs_in(const uint8_t *letters, size_t len) {
+    size_t rs = 0;
+    for (size_t i = 0; i < len; i++) {
+        rs += letters[i] == 'R';
+    }
+    return rs;
+}
+
+/* The two equations, which leave no other counts, on random words up to the largest length, the same ones in every run. */
+static void equations(void) {
+    static uint8_t letters[4096];
+    static uint8_t out[4096];
+    uint32_t bits = 1;
+    for (size_t len = 0; len <= sizeof letters; len += len < 64 ? 1 : 64) {
+        for (size_t i = 0; i < len; i++) {
+            bits = bits * 1664525 + 1013904223;
+            letters[i] = bits >> 31 ? 'R' : 'S';
+        }
+        struct kernelhop_reduction reduction = kernelhop_reduce(letters, len, out, sizeof out);
+        CHECK(reduction.number == 0 && is(kernelhop_is_normal(out, reduction.value), 0, 1));
+        CHECK(len == reduction.value + 2 * (size_t)reduction.pairs + 3 * (size_t)reduction.triples);
+        CHECK(rs_in(letters, len) - rs_in(out, reduction.value) == 2 * (size_t)reduction.pairs);
+    }
 }
 
 static void normality(void) {
@@ -598,6 +652,8 @@ static void cards(void) {
 static void *all(void *nothing) {
     version();
     words();
+    letters_that_went();
+    equations();
     normality();
     matrices();
     verdicts();

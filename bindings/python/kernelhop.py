@@ -12,6 +12,8 @@ Refused.
     (True, False)
     >>> kernelhop.subgroup_verdict(["SR", "SSR"], "SS")
     <SubgroupMember by 0 1^-1>
+    >>> kernelhop.reduce("SRRSSSSR")
+    Reduction(word='SSR', pairs=1, triples=1)
     >>> kernelhop.reduce("SRT")
     Traceback (most recent call last):
     kernelhop.Refused: refused by question 10, place 2: a letter is not R or S
@@ -34,6 +36,7 @@ from typing import NamedTuple
 __all__ = [
     "Member",
     "NoMember",
+    "Reduction",
     "Refused",
     "SignedFactor",
     "SubgroupMember",
@@ -91,6 +94,9 @@ LARGEST_BOUND = 1000
 
 # The largest number of 16 bits.
 LARGEST_SHORT = 65535
+
+# The first release that this module can call: an older library's reduction goes by the same name and says nothing of pairs and triples.
+OLDEST_RELEASE = 10500
 
 
 class Refused(ValueError):
@@ -191,16 +197,30 @@ class NoMember:
         return False
 
 
+class Reduction(NamedTuple):
+    """The normal form of a word, and how much of the word was cancelled: so many pairs RR, and so many triples SSS.
+
+    The word has as many letters as its normal form, twice the pairs and three times the triples together, and twice the pairs are its R's, less those that are
+    kept: so both counts are fixed by the two words, in whatever order pairs and triples are erased.
+    """
+
+    word: str
+    pairs: int
+    triples: int
+
+
 def reduce(word):
-    """The normal form of a word. Asks questions 8 and 10."""
+    """The normal form of a word, with the pairs RR and the triples SSS that went: a Reduction. Asks questions 8 and 10."""
     letters = _letters(word)
-    return _written(_reduce, letters, len(letters), room=len(letters))
+    form, outcome = _written(_reduce, letters, len(letters), room=len(letters))
+    return Reduction(form, outcome.pairs, outcome.triples)
 
 
 def invert(word):
     """The normal form of a word's inverse. Asks questions 8 and 10."""
     letters = _letters(word)
-    return _written(_invert, letters, len(letters), room=2 * len(letters))
+    form, _ = _written(_invert, letters, len(letters), room=2 * len(letters))
+    return form
 
 
 def is_normal(word):
@@ -222,7 +242,8 @@ def word(a, b, c, d):
     """The normal form of the matrix (a b; c d) of determinant 1, taken up to sign. Asks questions 5, 6 and 12."""
     # Entries beyond 64 bits are cut down to what fits, which question 5 refuses alike.
     entries = [max(-(2**63), min(2**63 - 1, operator.index(entry))) for entry in (a, b, c, d)]
-    return _written(_matrix_to_word, *entries, room=FORM)
+    form, _ = _written(_matrix_to_word, *entries, room=FORM)
+    return form
 
 
 def verdict(generators, target, n=LARGEST_BOUND):
@@ -273,6 +294,10 @@ class _Outcome(ctypes.Structure):
     _fields_ = [("number", ctypes.c_uint8), ("value", ctypes.c_size_t)]
 
 
+class _Reduction(ctypes.Structure):
+    _fields_ = [("number", ctypes.c_uint8), ("pairs", ctypes.c_uint16), ("triples", ctypes.c_uint16), ("value", ctypes.c_size_t)]
+
+
 class _Part(ctypes.Structure):
     _fields_ = [("inverse", ctypes.c_uint8), ("start", ctypes.c_uint16), ("end", ctypes.c_uint16)]
 
@@ -308,7 +333,11 @@ def _call(name, *arguments, result=_Outcome):
 
 
 _release = _call("version", result=ctypes.c_uint32)()
-_reduce = _call("reduce", *_READ, *_LENT)
+__version__ = f"{_release // 10000}.{_release // 100 % 100}.{_release % 100}"
+if _release < OLDEST_RELEASE:
+    raise ImportError(f"{_LIBRARY._name} is of release {__version__}, which is older than this module: run bindings/python/build")
+
+_reduce = _call("reduce", *_READ, *_LENT, result=_Reduction)
 _invert = _call("invert", *_READ, *_LENT)
 _is_normal = _call("is_normal", *_READ)
 _word_to_matrix = _call("word_to_matrix", *_READ, ctypes.POINTER(ctypes.c_int64 * 4))
@@ -318,8 +347,6 @@ _reachable = _call("reachable", *_READ, *_LENT, *_READ, *_LENT * 2)
 _judge_subgroup = _call("judge_subgroup", *_READ, *_LENT, *_READ, ctypes.c_uint16, *_LENT * 4)
 _letters_of = _call("letters_of", *_READ, *_LENT, *_READ, ctypes.c_uint8, result=_Part)
 _answer_card = _call("answer_card", *_READ, *_LENT * 3)
-
-__version__ = f"{_release // 10000}.{_release // 100 % 100}.{_release % 100}"
 
 
 def _bytes(content):
@@ -382,9 +409,11 @@ def _value(outcome):
 
 
 def _written(call, *inputs, room):
+    """The word that a call writes, and the call's outcome."""
     out = (ctypes.c_uint8 * room)()
-    length = _value(call(*inputs, out, room))
-    return bytes(out[:length]).decode("ascii")
+    outcome = call(*inputs, out, room)
+    length = _value(outcome)
+    return bytes(out[:length]).decode("ascii"), outcome
 
 
 class _Room:

@@ -4,6 +4,7 @@ import collections
 import doctest
 import os
 import pickle
+import random
 import re
 import subprocess
 import sys
@@ -17,6 +18,7 @@ import kernelhop
 from kernelhop import (
     Member,
     NoMember,
+    Reduction,
     Refused,
     SignedFactor,
     answer_card,
@@ -49,10 +51,53 @@ class Case(unittest.TestCase):
 
 class Words(Case):
     def test_normal_forms(self):
-        for given, form in [("RR", ""), ("SSS", ""), ("SSSS", "S"), ("RSSSR", ""), ("", ""), ("S" * 4096, "S")]:
-            self.assertEqual(reduce(given), form)
+        for given, form, pairs, triples in [
+            ("RR", "", 1, 0),
+            ("SSS", "", 0, 1),
+            ("SSSS", "S", 0, 1),
+            ("", "", 0, 0),
+            ("SSRSRSS", "SSRSRSS", 0, 0),
+            # a pair that meets only when a triple has gone, and triples whose letters meet only when pairs have
+            ("RSSSR", "", 1, 1),
+            ("SRRSRRS", "", 2, 1),
+            ("SSRSSSRS", "", 1, 2),
+            ("RSRRSRRSSR", "RSR", 2, 1),
+            # as many as there can be of each
+            ("R" * 4096, "", 2048, 0),
+            ("S" * 4096, "S", 0, 1365),
+        ]:
+            self.assertEqual(reduce(given), Reduction(form, pairs, triples))
         self.assertEqual(invert("SR"), "RSS")
         self.assertEqual(invert(""), "")
+
+    def test_letters_that_went(self):
+        """The two equations, which leave no other counts."""
+        chance = random.Random(1)
+        for length in [*range(200), 1000, 4095, 4096]:
+            given = "".join(chance.choices("RS", k=length))
+            form, pairs, triples = reduce(given)
+            self.assertIs(is_normal(form), True)
+            self.assertEqual(len(given), len(form) + 2 * pairs + 3 * triples)
+            self.assertEqual(given.count("R") - form.count("R"), 2 * pairs)
+
+    def test_a_reduction(self):
+        found = reduce("SRRSSSSR")
+        self.assertEqual((found.word, found.pairs, found.triples), ("SSR", 1, 1))
+        self.assertEqual(repr(found), "Reduction(word='SSR', pairs=1, triples=1)")
+        self.assertEqual(found, pickle.loads(pickle.dumps(found)))
+
+    def test_lent(self):
+        """A refusal counts nothing and changes nothing, though a pair and a triple stand in the word; behind the normal form the bytes remain."""
+
+        def asked(letters, room):
+            lent = array("B", b"x" * 10)
+            outcome = kernelhop._reduce(letters, len(letters), lent.buffer_info()[0], room)
+            return outcome.number, outcome.value, outcome.pairs, outcome.triples, lent.tobytes()
+
+        self.assertEqual(asked(b"RRSSSTS", 10), (10, 5, 0, 0, b"x" * 10))
+        self.assertEqual(asked(b"RRSSSS", 5), (14, 0, 0, 0, b"x" * 10))
+        self.assertEqual(asked(b"RRSSSS", 6), (0, 1, 1, 1, b"S" + b"x" * 9))
+        self.assertEqual(asked(b"", 0), (0, 0, 0, 0, b"x" * 10))
 
     def test_refused(self):
         self.refused(8, 0, reduce, "S" * 4097)
@@ -289,7 +334,7 @@ class Subgroups(Case):
         ]:
             found = subgroup_verdict(generators, target)
             self.assertEqual(str(found), factors)
-            self.assertEqual(reduce("".join(map(found.letters, found.factors))), reduce(target))
+            self.assertEqual(reduce("".join(map(found.letters, found.factors))).word, reduce(target).word)
         self.assertEqual(subgroup_verdict(["SR"], "R"), NoMember(1000))
         self.assertEqual(subgroup_verdict([], "R"), NoMember(1000))
 
@@ -559,11 +604,18 @@ class Module(unittest.TestCase):
             self.assertIsNotNone(getattr(kernelhop, name).__doc__, name)
 
     def test_another_library(self):
-        """A library without the calls, and a folder without a library."""
+        """A folder without a library, a library without the calls, and one of an older release, whose reduction would be misread."""
+        version = "unsigned kernelhop_version(void) { return %d; }"
         with tempfile.TemporaryDirectory() as folder:
-            for make, text in [(False, "run bindings/python/build"), (True, "of another release than this module")]:
-                if make:
-                    subprocess.run(["gcc", "-shared", "-o", os.path.join(folder, "libkernelhop.so"), "-x", "c", os.devnull], check=True)
+            for source, text in [
+                (None, "run bindings/python/build"),
+                ("", "has no kernelhop_version, so it is of another release than this module"),
+                (version % kernelhop.OLDEST_RELEASE, "has no kernelhop_reduce, so it is of another release than this module"),
+                (version % (kernelhop.OLDEST_RELEASE - 1), "is older than this module"),
+            ]:
+                if source is not None:
+                    make = ["gcc", "-shared", "-o", os.path.join(folder, "libkernelhop.so"), "-x", "c", "-"]
+                    subprocess.run(make, input=source.encode(), check=True)
                 environment = dict(os.environ, KERNELHOP_LIB_DIR=folder, PYTHONPATH=HERE)
                 result = subprocess.run([sys.executable, "-B", "-c", "import kernelhop"], env=environment, capture_output=True, check=False)
                 self.assertEqual(result.returncode, 1)

@@ -15,6 +15,15 @@ struct Outcome {
 
 const NONE: u8 = 255;
 
+/// What reduction answers: 0, the pairs and the triples that went, and the length. A refusal: the question's number, no pairs, no triples, and its place.
+#[repr(C)]
+struct ReductionOutcome {
+    number: u8,
+    pairs: u16,
+    triples: u16,
+    value: usize,
+}
+
 /// Where the letters of a factor stand: from `start` up to `end`, in the inverse slice where `inverse` is 1, and in the given one where it is 0.
 #[repr(C)]
 struct Part {
@@ -32,7 +41,12 @@ pub const INVERSE: u8 = 128;
 extern "C" {
     fn kernelhop_version() -> u32;
     fn kernelhop_is_normal(word: *const u8, word_len: usize) -> Outcome;
-    fn kernelhop_reduce(word: *const u8, word_len: usize, out: *mut u8, out_len: usize) -> Outcome;
+    fn kernelhop_reduce(
+        word: *const u8,
+        word_len: usize,
+        out: *mut u8,
+        out_len: usize,
+    ) -> ReductionOutcome;
     fn kernelhop_invert(word: *const u8, word_len: usize, out: *mut u8, out_len: usize) -> Outcome;
     fn kernelhop_word_to_matrix(word: *const u8, word_len: usize, out: *mut [i64; 4]) -> Outcome;
     fn kernelhop_matrix_to_word(
@@ -108,6 +122,17 @@ extern "C" {
     ) -> Outcome;
 }
 
+/// A reduction whose normal form stands in the front of the lent slice, with `length` letters. The word has as many letters as these, twice the pairs and
+/// three times the triples together, and twice the pairs are its R's, less those of the normal form.
+#[derive(Clone, Copy, Debug, PartialEq, Eq)]
+pub struct Reduced {
+    pub length: usize,
+    /// How many RR went.
+    pub pairs: usize,
+    /// How many SSS went.
+    pub triples: usize,
+}
+
 /// A verdict whose factors stand in the lent witness.
 #[derive(Clone, Copy, Debug, PartialEq, Eq)]
 pub enum Judged {
@@ -154,9 +179,19 @@ pub(crate) fn is_normal(word: &[u8]) -> Result<bool, Refusal> {
     Ok(value(unsafe { kernelhop_is_normal(word.as_ptr(), word.len()) })? == 1)
 }
 
-/// Writes the normal form of a word to the front of `out`; the answer is its length. Asks questions 8, 10 and 14: room for as many letters as the word has.
-pub fn reduce(word: &[u8], out: &mut [u8]) -> Result<usize, Refusal> {
-    value(unsafe { kernelhop_reduce(word.as_ptr(), word.len(), out.as_mut_ptr(), out.len()) })
+/// Writes the normal form of a word to the front of `out`; the answer is its length, and how many pairs and triples went. Asks questions 8, 10 and 14: room for
+/// as many letters as the word has.
+pub fn reduce(word: &[u8], out: &mut [u8]) -> Result<Reduced, Refusal> {
+    let outcome =
+        unsafe { kernelhop_reduce(word.as_ptr(), word.len(), out.as_mut_ptr(), out.len()) };
+    match outcome.number {
+        0 => Ok(Reduced {
+            length: outcome.value,
+            pairs: usize::from(outcome.pairs),
+            triples: usize::from(outcome.triples),
+        }),
+        number => Err(Refusal::new(number, outcome.value)),
+    }
 }
 
 /// Writes the normal form of a word's inverse to the front of `out`; the answer is its length. Asks questions 8, 10 and 14: room for twice as many letters.

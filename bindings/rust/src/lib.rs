@@ -21,6 +21,10 @@
 //! assert_eq!(found.to_string(), "0 1^-1");
 //! assert_eq!(found.letters(found.factors()[1]), "RS");
 //!
+//! // Of SRRSSSSR one RR went and one SSS, which leaves SSR.
+//! let reduction = reduce("SRRSSSSR")?;
+//! assert_eq!((reduction.word.as_str(), reduction.pairs, reduction.triples), ("SSR", 1, 1));
+//!
 //! let refusal = reduce("SRT").unwrap_err();
 //! assert_eq!((refusal.number(), refusal.place()), (10, 2));
 //! assert_eq!(refusal.to_string(), "refused by question 10, place 2: a letter is not R or S");
@@ -48,6 +52,19 @@ pub enum Verdict {
     None { n: u16 },
 }
 
+/// The normal form of a word, and how much of the word was cancelled. The word has as many letters as its normal form, twice the pairs and three times the
+/// triples together, and twice the pairs are its R's, less those that are kept: so both counts are fixed by the two words, in whatever order pairs and triples
+/// are erased.
+#[derive(Clone, Debug, PartialEq, Eq)]
+pub struct Reduction {
+    /// The normal form.
+    pub word: String,
+    /// How many RR went.
+    pub pairs: usize,
+    /// How many SSS went.
+    pub triples: usize,
+}
+
 /// The letters that a matrix's normal form may have (question 14).
 const FORM: usize = 80;
 
@@ -71,7 +88,7 @@ fn text(letters: &[u8]) -> String {
     letters.iter().map(|&letter| char::from(letter)).collect()
 }
 
-/// The release of the library that answers, such as `1.4.0`.
+/// The release of the library that answers, such as `1.5.0`.
 pub fn version() -> String {
     let release = lent::version();
     format!(
@@ -82,12 +99,29 @@ pub fn version() -> String {
     )
 }
 
-/// The normal form of a word. Asks questions 8 and 10.
-pub fn reduce(word: impl AsRef<[u8]>) -> Result<String, Refusal> {
+/// The normal form of a word, and how many pairs RR and triples SSS went. Asks questions 8 and 10.
+///
+/// ```
+/// use kernelhop::{reduce, Reduction};
+///
+/// // The pair meets only when the triple has gone.
+/// let nothing = Reduction { word: String::new(), pairs: 1, triples: 1 };
+/// assert_eq!(reduce("RSSSR")?, nothing);
+///
+/// let given = "SRRSRSSSSRSRR";
+/// let Reduction { word, pairs, triples } = reduce(given)?;
+/// assert_eq!(given.len(), word.len() + 2 * pairs + 3 * triples);
+/// # Ok::<(), kernelhop::Refusal>(())
+/// ```
+pub fn reduce(word: impl AsRef<[u8]>) -> Result<Reduction, Refusal> {
     let word = word.as_ref();
     let mut out = vec![0; word.len()];
-    let length = lent::reduce(word, &mut out)?;
-    Ok(text(&out[..length]))
+    let reduced = lent::reduce(word, &mut out)?;
+    Ok(Reduction {
+        word: text(&out[..reduced.length]),
+        pairs: reduced.pairs,
+        triples: reduced.triples,
+    })
 }
 
 /// The normal form of a word's inverse. Asks questions 8 and 10.

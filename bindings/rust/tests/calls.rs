@@ -2,7 +2,8 @@
 
 use kernelhop::{
     answer_card, invert, is_normal, lent, matrix_to_word, reachable, reduce, subgroup_verdict,
-    verdict, version, word_to_matrix, SignedFactor, SubgroupMember, SubgroupVerdict, Verdict,
+    verdict, version, word_to_matrix, Reduction, SignedFactor, SubgroupMember, SubgroupVerdict,
+    Verdict,
 };
 use std::{cell::RefCell, sync::mpsc, thread};
 
@@ -21,15 +22,56 @@ fn refused<T: std::fmt::Debug>(answer: Result<T, kernelhop::Refusal>) -> (u8, us
     (refusal.number(), refusal.place())
 }
 
+/// What a word is reduced to, and how many pairs and triples went.
+fn reduction(word: &str, pairs: usize, triples: usize) -> Reduction {
+    Reduction {
+        word: word.into(),
+        pairs,
+        triples,
+    }
+}
+
 #[test]
 fn normal_forms() {
-    assert_eq!(reduce("RR").unwrap(), "");
-    assert_eq!(reduce("SSS").unwrap(), "");
-    assert_eq!(reduce("SSSS").unwrap(), "S");
-    assert_eq!(reduce("RSSSR").unwrap(), "");
-    assert_eq!(reduce("").unwrap(), "");
+    assert_eq!(reduce("RR").unwrap(), reduction("", 1, 0));
+    assert_eq!(reduce("SSS").unwrap(), reduction("", 0, 1));
+    assert_eq!(reduce("SSSS").unwrap(), reduction("S", 0, 1));
+    assert_eq!(reduce("").unwrap(), reduction("", 0, 0));
+    assert_eq!(reduce("SSRSRSS").unwrap(), reduction("SSRSRSS", 0, 0));
+    // A pair that meets only when a triple has gone, and triples whose letters meet only when pairs have.
+    assert_eq!(reduce("RSSSR").unwrap(), reduction("", 1, 1));
+    assert_eq!(reduce("SRRSRRS").unwrap(), reduction("", 2, 1));
+    assert_eq!(reduce("SSRSSSRS").unwrap(), reduction("", 1, 2));
+    assert_eq!(reduce(b"RSRRSRRSSR").unwrap(), reduction("RSR", 2, 1));
+    // As many as there can be of each.
+    assert_eq!(reduce("R".repeat(4096)).unwrap(), reduction("", 2048, 0));
+    assert_eq!(reduce("S".repeat(4096)).unwrap(), reduction("S", 0, 1365));
     assert_eq!(invert("SR").unwrap(), "RSS");
     assert_eq!(invert("").unwrap(), "");
+}
+
+/// Random letters, the same ones in every run.
+fn random_letters() -> impl Iterator<Item = char> {
+    let mut bits = 1u32;
+    std::iter::repeat_with(move || {
+        bits = bits.wrapping_mul(1_664_525).wrapping_add(1_013_904_223);
+        ['S', 'R'][(bits >> 31) as usize]
+    })
+}
+
+/// The two equations, which leave no other counts.
+#[test]
+fn letters_that_went() {
+    let rs = |word: &str| word.matches('R').count();
+    let mut letters = random_letters();
+    for length in (0..200).chain([1000, 4095, 4096]) {
+        let given: String = letters.by_ref().take(length).collect();
+        let reduced = reduce(&given).unwrap();
+        assert_eq!(is_normal(&reduced.word), Ok(true));
+        let gone = 2 * reduced.pairs + 3 * reduced.triples;
+        assert_eq!(given.len(), reduced.word.len() + gone);
+        assert_eq!(rs(&given) - rs(&reduced.word), 2 * reduced.pairs);
+    }
 }
 
 #[test]
@@ -45,7 +87,6 @@ fn normality() {
 
 #[test]
 fn words_that_are_refused() {
-    assert_eq!(reduce("S".repeat(4096)).unwrap(), "S");
     assert_eq!(refused(reduce("S".repeat(4097))), (8, 0));
     assert_eq!(refused(reduce("RSr")), (10, 2));
     assert_eq!(refused(invert([0u8, 255])), (10, 0));
@@ -322,7 +363,7 @@ fn letters_of_factors() {
         .iter()
         .map(|&f| product.letters(f))
         .collect();
-    assert_eq!(reduce(words.concat()).unwrap(), "SRSRSSRSSR");
+    assert_eq!(reduce(words.concat()).unwrap().word, "SRSRSSRSSR");
 }
 
 /// The largest list that the questions let pass, with 512 letters of inverses, and inverses of 120 letters each.
@@ -523,8 +564,14 @@ fn lent_slices() {
     assert_eq!(refused(falling), (9, 1));
     assert_eq!(witness, [0, 1, 2, 9, 9]);
     let mut out = [b'x'; 4];
-    assert_eq!(lent::reduce(b"SRRS", &mut out), Ok(2));
+    let reduced = lent::Reduced {
+        length: 2,
+        pairs: 1,
+        triples: 0,
+    };
+    assert_eq!(lent::reduce(b"SRRS", &mut out), Ok(reduced));
     assert_eq!(&out, b"SSxx");
+    assert_eq!(refused(lent::reduce(b"RRSSS", &mut out)), (14, 0));
     assert_eq!(refused(lent::invert(b"SRR", &mut out)), (14, 0));
     assert_eq!(&out, b"SSxx");
 }

@@ -1,21 +1,27 @@
-//! Reduction, inversion, normality and matrices, exhaustively: every word of up to 12 letters and every matrix of determinant 1 with entries up to 20. Prints what was
-//! tried, and `0 differ`; where something differs it prints the first of them and exits with 1.
+//! Reduction with its counts, inversion, normality and matrices, exhaustively: every word of up to 12 letters and every matrix of determinant 1 with entries up to
+//! 20. Prints what was tried, and `0 differ`; where something differs it prints the first of them and exits with 1.
 
-use kernelhop::{invert, is_normal, matrix_to_word, reduce, word_to_matrix};
+use kernelhop::{invert, is_normal, matrix_to_word, reduce, word_to_matrix, Reduction};
 use kernelhop_trials::{
     element::Element,
-    erasing::{inverse, normal_form},
+    erasing::{erased, inverse, normal_form},
     words::up_to,
 };
 
 const LETTERS: usize = 12;
 const ENTRY: i64 = 20;
 
-/// The normal form, whether the word is one, the inverse's, the matrix, and the word of that matrix.
+/// The normal form with the pairs and triples that went, whether the word is one, the inverse's, the matrix, and the word of that matrix.
 fn word_is_right(word: &[u8]) -> bool {
-    let form = text(normal_form(word));
+    let left = erased(word);
+    let form = text(left.form);
     let matrix = Element::of_word(word).matrix();
-    reduce(word) == Ok(form.clone())
+    let reduction = Reduction {
+        word: form.clone(),
+        pairs: left.pairs,
+        triples: left.triples,
+    };
+    reduce(word) == Ok(reduction)
         && is_normal(word) == Ok(form.as_bytes() == word)
         && invert(word) == Ok(text(normal_form(&inverse(word))))
         && word_to_matrix(word) == Ok(matrix)
@@ -49,7 +55,7 @@ fn main() {
     let words = up_to(LETTERS);
     let wrong: Vec<_> = words.iter().filter(|word| !word_is_right(word)).collect();
     println!(
-        "words of up to {LETTERS} letters: {}, reduced, tested, inverted, turned into matrices and back; {} differ",
+        "words of up to {LETTERS} letters: {}, reduced and accounted for, tested, inverted, turned into matrices and back; {} differ",
         words.len(),
         wrong.len()
     );
