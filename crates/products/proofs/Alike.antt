@@ -6,7 +6,7 @@ use Prim.Native.Nat.{ℕ}
 use native.Mathlib.Omega.{arith}
 use lib.ListN.{length}
 use Rattle.words.specs.Word.{Word}
-use Rattle.products.specs.Product.{Family, Each, Reaches, Rival, NoneRight, MemberRight, YesRight, NoRight, Before}
+use Rattle.products.specs.Product.{Family, Each, Reaches, Counted, Rival, NoneRight, MemberRight, YesRight, NoRight, Before}
 use Rattle.products.proofs.Unbounded.{yes-not-no}
 
 -- `there` and `back` take a series of the one to a series of the other: as long, a product of the other's target where it is one of its own, and no other
@@ -21,15 +21,30 @@ pub record Alike (F G : Family) (t u : Word) (there back : List ℕ → List ℕ
   pub before-back : (s r : List ℕ) → Each (G .Number) s → Each (F .Number) r → Before s (there r) → Before (back s) r
 
 module _ {F G : Family} {t u : Word} {there back : List ℕ → List ℕ} (alike : Alike F G t u there back) where
+  -- a series that is as long counts as well
+  counted-there : (r : List ℕ) → Counted r → Counted (there r)
+  counted-there r c = omega (arith, alike .length-there r)
+
+  counted-back : (s : List ℕ) → Counted s → Counted (back s)
+  counted-back s c = omega (arith, alike .length-back s)
+
   rival-there : {n : ℕ} {r : List ℕ} → Rival F n r → Rival G n (there r)
   rival-there {n} {r} k =
       let within = k .within in
-      record { series = alike .series-there r (k .series); counted = tt; within = omega (arith, alike .length-there r) }
+      record {
+        series = alike .series-there r (k .series);
+        counted = counted-there r (k .counted);
+        within = omega (arith, alike .length-there r);
+      }
 
   rival-back : {n : ℕ} {s : List ℕ} → Rival G n s → Rival F n (back s)
   rival-back {n} {s} k =
       let within = k .within in
-      record { series = alike .series-back s (k .series); counted = tt; within = omega (arith, alike .length-back s) }
+      record {
+        series = alike .series-back s (k .series);
+        counted = counted-back s (k .counted);
+        within = omega (arith, alike .length-back s);
+      }
 
   pub none-alike : (n : ℕ) → NoneRight F t n → NoneRight G u n
   none-alike n right s k e = right (back s) (rival-back k) (alike .reaches-back s (k .series) e)
@@ -48,7 +63,7 @@ module _ {F G : Family} {t u : Word} {there back : List ℕ → List ℕ} (alike
       }
 
   pub yes-alike : YesRight F t → YesRight G u
-  yes-alike (r, s, c, e) = (there r, alike .series-there r s, tt, alike .reaches-there r s e)
+  yes-alike (r, s, c, e) = (there r, alike .series-there r s, counted-there r c, alike .reaches-there r s e)
 
   pub no-alike : NoRight F t → NoRight G u
-  no-alike right r s c e = yes-not-no F t (back r, alike .series-back r s, tt, alike .reaches-back r s e) right
+  no-alike right r s c e = yes-not-no F t (back r, alike .series-back r s, counted-back r c, alike .reaches-back r s e) right

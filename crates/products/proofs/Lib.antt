@@ -21,3 +21,4 @@ pub mod RowFirsts
 pub mod Verdict
 pub mod Generators
 pub mod Unbounded
+pub mod Relations

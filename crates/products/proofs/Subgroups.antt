@@ -19,7 +19,7 @@ use Rattle.products.proofs.Doubled.{Twin, given, inverted, twin-of-numb
 module _ (gens : List Word) (few : length gens ≤ inverseMark) where
   -- a rival without inverses is one with them, and reaches the same
   pub plain-rival : {n : ℕ} {r : List ℕ} → Rival (plain gens) n r → Rival (signed gens) n r
-  plain-rival {n} {r} k = rival-of (each-on (Factor gens) (number-given gens few) r (k .series)) (k .within)
+  plain-rival {n} {r} k = rival-of (each-on (Factor gens) (number-given gens few) r (k .series)) (k .counted) (k .within)
 
   pub plain-reaches : (r : List ℕ) (target : Word) → Each (Factor gens) r → Reaches (plain gens) r target → Reaches (signed gens) r target
   plain-reaches r target h e = rw (spelled-on (Factor gens) (word-given gens few) r h) e
@@ -61,4 +61,5 @@ module _ (gens : List Word) (few : length gens ≤ inverseMark) where
   inverse-reached n r target k e =
       let (s, each, long, equal) = inverse-product r (k .series) in
       let within = k .within in
-      (s, rival-of each (omega arith), then equal (inverse-equal e), long)
+      let counted = k .counted in
+      (s, rival-of each (omega arith) (omega arith), then equal (inverse-equal e), long)

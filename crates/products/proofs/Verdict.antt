@@ -1,26 +1,24 @@
 -- The rows of a target decide.
 --     rows-closed-of, rows-attained-of         one round of rule F over what is read gives rows that are closed and attained
 --     verdict-none, verdict-first              what the last row's entry at nothing says of the target
---     verdict-empty                            the empty product reaches a target that equals nothing
 -- Assumes that the generators and the target are reduced.
-use mathlib.Core.Path.{_≡_, refl, sym}
-use mathlib.Core.Logic.{_≢_, _⊎_, inl, inr}
-use mathlib.Core.List.{List, [], _∷_, append-nil, nil≢cons}
+use mathlib.Core.Path.{_≡_, refl}
+use mathlib.Core.Logic.{_⊎_, inl, inr}
+use mathlib.Core.List.{List, [], _∷_, append-nil}
 use Prim.Native.Nat.{ℕ, zero, suc, _+_, _≤_, _<_}
 use native.Mathlib.Omega.{arith}
 use lib.ListN.{length, take, getD}
 use lib.Seq.{take-length}
-use Rattle.words.specs.Word.{Letter, R, Word, Equal}
+use Rattle.words.specs.Word.{Letter, R, Word}
 use Rattle.words.proofs.Reduced.{Reduced}
 use Rattle.products.specs.Product.{Reaches, measure, Rival, NoneRight, MemberRight, plain}
 use Rattle.products.proofs.States.{State, state-tail}
 use Rattle.products.proofs.OneStep.{AllReduced}
-use Rattle.products.proofs.FirstLetter.{equal-reduced}
-use Rattle.products.proofs.Order.{NoLater, before-nothing, no-later-not-before}
+use Rattle.products.proofs.Order.{no-later-not-before}
 use Rattle.products.proofs.Rows.{FromRow, RowsClosed, RowsAttained}
-use Rattle.products.proofs.RowClasses.{reads-series, reads-made, rows-least}
+use Rattle.products.proofs.RowClasses.{reads-series, reads-some, reads-made, rows-least}
 use Rattle.products.proofs.RowFirsts.{RowFirst, row-first-all}
-use Rattle.products.proofs.Rivals.{rival-of}
+use Rattle.products.proofs.Rivals.{counted-some, some-counted, rival-of}
 use Rattle.products.proofs.Tables.{Closed}
 use Rattle.products.proofs.Exact.{Exact, measure-append}
 
@@ -82,13 +80,10 @@ module _ (gens : List Word) (n : ℕ) (T : Word → Word → ℕ) (x : Word) (Ro
             (at-least-on gens n T closed (Read i) v q (Row (suc i) v) s t k (rounds .attained i v h s (omega arith)))
 
 module _ (gens : List Word) (n : ℕ) (T : Word → Word → ℕ) (x : Word) (Row : ℕ → Word → ℕ)
-    (all : AllReduced gens) (exact : Exact gens n T) (rows : RowsClosed gens n T x Row) (reduced : Reduced x) (some : x ≢ []) where
-  -- the empty series reaches no reduced word but the empty one, so every rival that reaches x has a factor
+    (all : AllReduced gens) (exact : Exact gens n T) (rows : RowsClosed gens n T x Row) (reduced : Reduced x) where
   rival-least : (r : List ℕ) → Rival (plain gens) n r → Reaches (plain gens) r x → Row (length x) [] ≤ measure r
-  rival-least [] k e = absurd (some (sym (equal-reduced tt reduced e)))
-  rival-least (j ∷ r) k e =
-      rows-least gens measure measure-append n T x Row exact all rows reduced
-      (j ∷ r) (λ f. nil≢cons (sym f)) (k .series) e (k .within)
+  rival-least r k e =
+      rows-least gens measure measure-append n T x Row exact all rows reduced r (counted-some (k .counted)) (k .series) e (k .within)
 
   pub verdict-none : n < Row (length x) [] → NoneRight (plain gens) x n
   verdict-none h r k e = let within = k .within in omega (arith, rival-least r k e)
@@ -99,23 +94,10 @@ module _ (gens : List Word) (n : ℕ) (T : Word → Word → ℕ) (x : Word) (Ro
   verdict-first factors f h =
       let weighs = f .weighs in
       record {
-        rival = rival-of (reads-series gens x (f .reads)) (omega arith);
+        rival = rival-of (reads-series gens x (f .reads)) (some-counted (reads-some gens x (f .reads))) (omega arith);
         reaches = rw (append-nil (take (length x) x), take-length x) at (reads-made gens x (f .reads));
         counts = refl;
         least = λ r k e. omega (arith, rival-least r k e);
-        first = λ r k e m b. no-later-not-before (no-later r k e m) b;
+        first = λ r k e m b.
+            no-later-not-before (row-first-all gens measure T x Row all reduced factors f r (counted-some (k .counted)) (k .series) e m) b;
       }
-    where
-      no-later : (r : List ℕ) → Rival (plain gens) n r → Reaches (plain gens) r x → measure r ≡ measure factors → NoLater factors r
-      no-later [] k e m = absurd (some (sym (equal-reduced tt reduced e)))
-      no-later (j ∷ r) k e m = row-first-all gens measure T x Row all reduced factors f (j ∷ r) (λ g. nil≢cons (sym g)) (k .series) e m
-
-pub verdict-empty : (gens : List Word) (target : Word) → Equal [] target → (n : ℕ) → MemberRight (plain gens) target n [] 0
-verdict-empty gens target e n =
-    record {
-      rival = rival-of tt (omega arith);
-      reaches = e;
-      counts = refl;
-      least = λ r k f. omega arith;
-      first = λ r k f m b. before-nothing b;
-    }

@@ -43,7 +43,7 @@ pub record Family : Type 1 where
   pub Number : ℕ → Type 0
   pub wordOf : ℕ → Word
 
--- 01: "A product is a series of generator numbers, each below the number of generators; the empty series is the identity."
+-- 01: "A product is a series of generator numbers, each below the number of generators".
 abbrev pub plain : List Word → Family
 plain gens = record { Number = λ i. Factor gens i; wordOf = λ i. generator gens i }
 
@@ -85,11 +85,12 @@ Reaches family r target = Equal (spelled (family .wordOf) r) target
 abbrev pub measure : List ℕ → ℕ
 measure r = length r
 
--- Which series count as products: each, the empty one too.
+-- Which series count as products. 02, M-105: "a product has one factor or more".
 abbrev pub Counted : List ℕ → Type 0
-Counted r = Unit {0}
+Counted r = 1 ≤ length r
 
--- A rival for a bound: a series that a verdict is judged against. 02, M-103: "A rival here is a series of signed generators".
+-- A rival for a bound: a series that a verdict is judged against. 02, M-103: "A rival here is a series of signed generators"; M-105: "A rival is a non-empty
+-- series from now on, and both members and nones are judged by that."
 pub record Rival (family : Family) (n : ℕ) (r : List ℕ) : Type 0 where
   pub series : Each (family .Number) r
   pub counted : Counted r

@@ -1,9 +1,8 @@
 -- What the last row's entry at nothing says of a target, where the table tells of each pair only whether some series leads from the one to the other.
 --     row-yes    0: some series reaches the target
 --     row-no     another entry: none does
--- Assumes the tree of normal generators, its table, and the rows of the target; and, for a no, that the target is normal and not empty.
+-- Assumes the tree of normal generators, its table, and the rows of the target; and, for a no, that the target is normal.
 use mathlib.Core.Path.{_≡_, ap}
-use mathlib.Core.Logic.{_≢_}
 use mathlib.Core.List.{List, []}
 use Prim.Native.Nat.{ℕ, _*_, _<_}
 use native.Mathlib.Omega.{arith}
@@ -43,9 +42,9 @@ module _ {gens words : List Word} {count : ℕ} {letters rests childrenR childre
       verdict-yes gens 1 (tableAt words count table) (word target) (rowAt words count rows) exact
       (rows-attained-of gens 1 (tableAt words count table) (word target) (rowAt words count rows) _ rounds) (omega (arith, last-entry))
 
-  pub row-no : Normal (word target) → word target ≢ [] → (at rows (length target * count) ≡ 0 → ⊥) → NoRight (plain gens) (word target)
-  row-no target-normal some not =
+  pub row-no : Normal (word target) → (at rows (length target * count) ≡ 0 → ⊥) → NoRight (plain gens) (word target)
+  row-no target-normal not =
       verdict-no gens 1 (tableAt words count table) (word target) (rowAt words count rows) exact (all-reduced gens normal)
       (rows-closed-of gens 1 (tableAt words count table) (word target) (rowAt words count rows)
       (exact-closed gens weightless weightless-append 1 (tableAt words count table) exact) _ rounds)
-      (reduced-of-normal (word target) target-normal) some (omega (arith, last-entry, not))
+      (reduced-of-normal (word target) target-normal) (omega (arith, last-entry, not))

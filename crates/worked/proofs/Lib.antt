@@ -1,6 +1,7 @@
 pub mod Accounts
 pub mod Pairs
 pub mod Refused
+pub mod Relations
 pub mod Signed
 pub mod Trying
 pub mod Values

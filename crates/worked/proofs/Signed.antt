@@ -21,7 +21,7 @@ flip = (R ∷ []) ∷ []
 -- 01: "The inverse of R is R and of S is SS". So SS is one factor with inverses ..
 pub turned-back : MemberRight (signed turn) (S ∷ S ∷ []) 1 (128 ∷ []) 1
 unfolding nf misses missesBefore
-turned-back = member-by-trying (signed-tried turn) (S ∷ S ∷ []) 1 128 [] (rival-of (omega arith, tt) (omega arith)) none refl refl
+turned-back = member-by-trying (signed-tried turn) (S ∷ S ∷ []) 1 128 [] (rival-of (omega arith, tt) (omega arith) (omega arith)) none refl refl
 
 -- .. where without them there is none of one factor, and one of two
 pub turned-twice-none : NoneRight (plain turn) (S ∷ S ∷ []) 1
@@ -30,17 +30,17 @@ turned-twice-none = none-by-trying (plain-tried turn) (S ∷ S ∷ []) 1 refl
 
 pub turned-twice : MemberRight (plain turn) (S ∷ S ∷ []) 2 (0 ∷ 0 ∷ []) 2
 unfolding nf misses missesBefore
-turned-twice = member-by-trying (plain-tried turn) (S ∷ S ∷ []) 2 0 (0 ∷ []) (rival-of (omega arith, (omega arith, tt)) (omega arith)) none refl refl
+turned-twice = member-by-trying (plain-tried turn) (S ∷ S ∷ []) 2 0 (0 ∷ []) (rival-of (omega arith, (omega arith, tt)) (omega arith) (omega arith)) none refl refl
 
 -- P4: "the inverse of SR is RSS."
 pub P4-signed : MemberRight (signed once) (R ∷ S ∷ S ∷ []) 1 (128 ∷ []) 1
 unfolding nf misses missesBefore
-P4-signed = member-by-trying (signed-tried once) (R ∷ S ∷ S ∷ []) 1 128 [] (rival-of (omega arith, tt) (omega arith)) none refl refl
+P4-signed = member-by-trying (signed-tried once) (R ∷ S ∷ S ∷ []) 1 128 [] (rival-of (omega arith, tt) (omega arith) (omega arith)) none refl refl
 
 -- R is its own inverse, so both its numbers reach it. The generator's own stands first, by M-100's order of the numbers as written.
 pub flipped : MemberRight (signed flip) (R ∷ []) 1 (0 ∷ []) 1
 unfolding nf misses missesBefore
-flipped = member-by-trying (signed-tried flip) (R ∷ []) 1 0 [] (rival-of (omega arith, tt) (omega arith)) none refl refl
+flipped = member-by-trying (signed-tried flip) (R ∷ []) 1 0 [] (rival-of (omega arith, tt) (omega arith) (omega arith)) none refl refl
 
 pub inverse-before-given-refused : MemberRight (signed flip) (R ∷ []) 1 (128 ∷ []) 1 → ⊥
 inverse-before-given-refused member = member .first (0 ∷ []) (flipped .rival) (flipped .reaches) refl (smaller (omega arith))

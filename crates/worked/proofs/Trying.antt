@@ -96,6 +96,11 @@ unfoldable pub misses : {family : Family} → Tried family → Word → ℕ → 
 misses {family} tried form zero p = not (same (nf p) form)
 misses {family} tried form (suc n) p = both (not (same (nf p) form)) (tried .every (λ k. misses tried form n (p ++ family .wordOf k)))
 
+-- no series of one factor or more, and at most n, makes a word with that normal form
+abbrev pub missesSome : {family : Family} → Tried family → Word → ℕ → Bool
+missesSome {family} tried form zero = true
+missesSome {family} tried form (suc n) = tried .every (λ k. misses tried form n (family .wordOf k))
+
 -- no series that stands before these factors, put behind the word p, makes a word with that normal form
 unfoldable pub missesBefore : {family : Family} → Tried family → Word → List ℕ → Word → Bool
 missesBefore {family} tried form [] p = true
@@ -117,8 +122,15 @@ module _ {family : Family} (tried : Tried family) where
       (tried .at test k (s .0) (both-right (not (same (nf p) form)) (tried .every test) e))
       (ap nf (append-assoc p (family .wordOf k) (spelled (family .wordOf) r)) ∙ h)
 
-  pub none-by-trying : (target : Word) (n : ℕ) → misses tried (nf target) n [] ≡ true → NoneRight family target n
-  none-by-trying target n e r rival reaches = missed (nf target) n [] r (rival .within) (rival .series) e (nf-of-equal reaches)
+  missed-some : (form : Word) (n : ℕ) (r : List ℕ) → Rival family n r → missesSome tried form n ≡ true → nf (spelled (family .wordOf) r) ≡ form → ⊥
+  missed-some form n [] rival e h = not-suc-le-zero (rival .counted)
+  missed-some form zero (k ∷ r) rival e h = not-suc-le-zero (rival .within)
+  missed-some form (suc n) (k ∷ r) rival e h =
+      missed form n (family .wordOf k) r (le-of-suc-le-suc (rival .within)) (rival .series .1)
+      (tried .at (λ i. misses tried form n (family .wordOf i)) k (rival .series .0) e) h
+
+  pub none-by-trying : (target : Word) (n : ℕ) → missesSome tried (nf target) n ≡ true → NoneRight family target n
+  none-by-trying target n e r rival reaches = missed-some (nf target) n r rival e (nf-of-equal reaches)
 
   missed-before : (form : Word) (p : Word) {r f : List ℕ} → Before r f → length r ≤ length f → Each (family .Number) r
       → missesBefore tried form f p ≡ true → nf (p ++ spelled (family .wordOf) r) ≡ form → ⊥
@@ -136,7 +148,7 @@ module _ {family : Family} (tried : Tried family) where
 
   -- factors that reach the target, where no series that is shorter and none that stands before them does
   pub member-by-trying : (target : Word) (n : ℕ) (j : ℕ) (f : List ℕ) → Rival family n (j ∷ f) → Reaches family (j ∷ f) target
-      → misses tried (nf target) (length f) [] ≡ true → missesBefore tried (nf target) (j ∷ f) [] ≡ true
+      → missesSome tried (nf target) (length f) ≡ true → missesBefore tried (nf target) (j ∷ f) [] ≡ true
       → MemberRight family target n (j ∷ f) (length (j ∷ f))
   member-by-trying target n j f rival reaches shorter before =
       record {
@@ -146,7 +158,7 @@ module _ {family : Family} (tried : Tried family) where
         least = λ r k e.
             elim (decLe (measure (j ∷ f)) (measure r)) [
               | yes h ↦ h
-              | no h ↦ absurd (none-by-trying target (length f) shorter r (rival-of (k .series) (omega arith)) e)
+              | no h ↦ absurd (none-by-trying target (length f) shorter r (rival-of (k .series) (k .counted) (omega arith)) e)
             ];
         first = λ r k e m b. missed-before (nf target) [] b (omega arith) (k .series) before (nf-of-equal e);
       }
