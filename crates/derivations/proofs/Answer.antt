@@ -43,25 +43,25 @@ module _ {gens words : List Word} {n : ℕ} {w : World} (query : Query gens word
   target-reduced : Reduced (word (w .target))
   target-reduced = reduced-of-normal (word (w .target)) (query .target-normal)
 
-  last-entry : rowIn words w (length (word (w .target))) [] ≡ weightIn w (whole w) 0
+  last-entry : rowIn query (length (word (w .target))) [] ≡ weightIn w (whole w) 0
   last-entry =
-      ap₂ (rowIn words w) (length-map (w .target) letter) (sym (query .tree .root))
+      ap₂ (rowIn query) (length-map (w .target) letter) (sym (query .tree .root))
       ∙ sym (row-weight query (length (w .target)) 0 (omega arith) (root-inside query))
 
   last-first : (r : List ℕ) → Firsts (partsIn w) (weightIn w) (whole w) 0 r → weightIn w (whole w) 0 ≤ n
-      → RowFirst gens measure (entryAt words w) (word (w .target)) (rowIn words w) (length (word (w .target))) [] r
+      → RowFirst gens measure (entryAt words w) (word (w .target)) (rowIn query) (length (word (w .target))) [] r
   last-first r f within =
-      subst₂ (λ (i : ℕ) (q : Word). RowFirst gens measure (entryAt words w) (word (w .target)) (rowIn words w) i q r)
+      subst₂ (λ (i : ℕ) (q : Word). RowFirst gens measure (entryAt words w) (word (w .target)) (rowIn query) i q r)
       (sym (length-map (w .target) letter)) (query .tree .root)
       (rows-first query (length (w .target)) 0 (omega arith) (root-inside query) f within)
 
   pub derived-right : (r : List ℕ) → Firsts (partsIn w) (weightIn w) (whole w) 0 r → weightIn w (whole w) 0 ≤ n
       → MemberRight (plain gens) (word (w .target)) n r (length r)
   derived-right r f within =
-      verdict-first gens n (entryAt words w) (word (w .target)) (rowIn words w) (reduced query) (entries-exact query) (rows-closed query) target-reduced
-      (query .target-some) r (last-first r f within) (omega (arith, last-entry))
+      verdict-first gens n (entryAt words w) (word (w .target)) (rowIn query) (reduced query) (entries-exact query) (rows-closed query) target-reduced
+      r (last-first r f within) (omega (arith, last-entry))
 
   pub none-right : n < weightIn w (whole w) 0 → NoneRight (plain gens) (word (w .target)) n
   none-right above =
-      verdict-none gens n (entryAt words w) (word (w .target)) (rowIn words w) (reduced query) (entries-exact query) (rows-closed query) target-reduced
-      (query .target-some) (omega (arith, last-entry))
+      verdict-none gens n (entryAt words w) (word (w .target)) (rowIn query) (reduced query) (entries-exact query) (rows-closed query) target-reduced
+      (omega (arith, last-entry))

@@ -28,6 +28,7 @@ use Rattle.products.proofs.Exact.{Exact, all-reduced, measure-append, measure-f
 use Rattle.trees.specs.Tree.{at, wordAt, mostOfEntry, Child}
 use Rattle.trees.proofs.Nodes.{node-number-at, is-letter, byte-of, begins-letter}
 use Rattle.rows.proofs.WordRows.{tableAt, table-exact}
+use Rattle.tables.specs.Rules.{place}
 use Rattle.derivations.specs.Ways.{World, weightIn, childBy}
 use Rattle.derivations.specs.Query.{Query}
 
@@ -88,12 +89,17 @@ module _ {gens words : List Word} {n : ℕ} {w : World} (query : Query gens word
   pub entry-some : (u q : Word) → State gens u → State gens q → 1 ≤ entryAt words w u q
   entry-some u q s t = exact-positive gens measure measure-append n (entryAt words w) entries-exact (measure-factor gens) u q s t
 
-  pub pair-weight : (p y : ℕ) → p < w .count → y < w .count → weightIn w (suc p) y ≡ entryAt words w (wordAt words p) (wordAt words y)
-  pair-weight p y h k =
+  -- an item inside the table weighs its entry
+  pub table-weight : (p q : ℕ) → p < w .count + length (w .target) → q < w .count → weightIn w (suc p) q ≡ at (w .counts) (place (w .count) p q)
+  table-weight p q h k =
       let few : w .count ≤ mostOfEntry = omega (arith, query .few) in
       let short : length (w .target) ≤ mostOfEntry = omega (arith, query .short) in
-      rw (node-number-at (query .tree) p (node-inside p h), node-number-at (query .tree) y (node-inside y k), le-ltb mostOfEntry (w .count) few)
-      (rw (le-ltb mostOfEntry (length (w .target)) short, lt-ltb y (w .count) k, le-ltb (w .count + length (w .target)) p (omega arith)))
+      rw (le-ltb mostOfEntry (w .count) few, le-ltb mostOfEntry (length (w .target)) short)
+      (rw (lt-ltb q (w .count) k, lt-ltb p (w .count + length (w .target)) h))
+
+  pub pair-weight : (p y : ℕ) → p < w .count → y < w .count → weightIn w (suc p) y ≡ entryAt words w (wordAt words p) (wordAt words y)
+  pair-weight p y h k =
+      rw (node-number-at (query .tree) p (node-inside p h), node-number-at (query .tree) y (node-inside y k)) (table-weight p y (omega arith) k)
 
   pub pair-some : (p y : ℕ) → p < w .count → y < w .count → 1 ≤ weightIn w (suc p) y
   pair-some p y h k =

@@ -1,18 +1,15 @@
 -- The items of rows: what stands in a row is attained by the parts of some way, and the first series of an item is that of the row at the node's word.
---     rows-attained    an item of a row, up to the bound, has tight parts
+--     rows-attained    an item of row 1 or a further one, up to the bound, has tight parts
 --     rows-first       its first series is the first of the row's
 -- Assumes a query.
-use mathlib.Core.Bool.{Bool, true}
 use mathlib.Core.Path.{_≡_, refl, sym, ap, subst, _∙_}
 use mathlib.Core.List.{List, _∷_}
 use Prim.Native.Nat.{ℕ, zero, suc, _+_, _≤_, _<_}
 use native.Mathlib.Decide.{ℕ-discrete}
 use native.Mathlib.Omega.{arith}
-use lib.Dec.{eqb}
 use lib.ListN.{length}
 use Rattle.words.specs.Word.{Word}
 use Rattle.words.specs.Bytes.{word}
-use Rattle.refusals.specs.Telling.{pick}
 use Rattle.products.specs.Product.{measure}
 use Rattle.products.specs.State.{State}
 use Rattle.products.proofs.States.{state-tail}
@@ -22,37 +19,32 @@ use Rattle.products.proofs.Firsts.{First}
 use Rattle.products.proofs.RowFirsts.{RowTight, RowFirst, RowJoined, row-first-start, row-entry-read, row-first-read, some-row-tight, row-first-chain}
 use Rattle.trees.specs.Tree.{wordAt}
 use Rattle.derivations.specs.declared.Parts.{Parts}
-use Rattle.derivations.specs.declared.Parts.the-variants.{One, Nothing}
 use Rattle.derivations.specs.Derivations.{Alone, Tight, Candidate, Firsts, Joins, chosen, one, two}
-use Rattle.derivations.specs.Ways.{World, partsIn, weightIn}
+use Rattle.derivations.specs.Ways.{World, rowItem, partsIn, weightIn}
 use Rattle.derivations.specs.Query.{Query}
 use Rattle.derivations.proofs.Nodes.{entryAt, entries-exact, node-state, node-of-state, pair-weight, pair-some}
 use Rattle.derivations.proofs.Pairs.{pairs-first}
 use Rattle.derivations.proofs.RowParts.{rowIn, letterIn, readIn, RowWay, reading, chaining, root-inside, rows-closed, rows-reached, row-weight, row-some}
 use Rattle.derivations.proofs.RowParts.{letter-there, read-inside, read-word, read-weight, read-state, state-read}
-use Rattle.derivations.proofs.RowParts.{start-parts, reading-parts, chaining-parts, row-way}
+use Rattle.derivations.proofs.RowParts.{reading-parts, chaining-parts, row-way}
 
 module _ {gens words : List Word} {n : ℕ} {w : World} (query : Query gens words n w) where
   abbrev T : Word → Word → ℕ
   T = entryAt words w
 
   abbrev Row : ℕ → Word → ℕ
-  Row = rowIn words w
+  Row = rowIn query
 
   abbrev x : Word
   x = word (w .target)
 
   -- the first number of the items of row i
   abbrev row : ℕ → ℕ
-  row i = suc (w .count + i)
+  row i = rowItem (w .count) i
 
-  -- row 0 is the row of node 0 in the table
-  start-weight : (q : ℕ) → q < w .count → weightIn w 1 q ≡ weightIn w (row 0) q
-  start-weight q k =
-      pair-weight query 0 q (root-inside query) k
-      ∙ ap (λ (u : Word). T u (wordAt words q)) (query .tree .root)
-      ∙ sym (rows-closed query .first (wordAt words q) (node-state query q k))
-      ∙ sym (row-weight query 0 q (omega arith) k)
+  row-lower : (i : ℕ) → row i < row (suc i)
+  row-lower zero = omega (arith, root-inside query)
+  row-lower (suc i) = omega arith
 
   module _ (i q : ℕ) (h : i < length (w .target)) (k : q < w .count) where
     -- the entry of row i + 1 at q's word
@@ -106,7 +98,7 @@ module _ {gens words : List Word} {n : ℕ} {w : World} (query : Query gens word
                 let (v, tight) = some-tight z in
                 let (d, inside, same) = node-of-state query v (state-tail gens (tight .state)) in
                 (d, row-tight d inside z (subst (RowTight gens T Row i (letterIn w i) (wordAt words q)) (sym same) tight))
-            | no some ↦ (0, rw (reading-parts query i q some) (omega arith, row-some query i (readIn w i q) (omega arith) (read-inside query i q k), same some))
+            | no some ↦ (0, rw (reading-parts query i q some) (row-lower i, row-some query i (readIn w i q) (omega arith) (read-inside query i q k), same some))
           ]
         where
           same : (readIn w i q ≡ 0 → ⊥) → weightIn w (row i) (readIn w i q) ≡ weightIn w (row (suc i)) q
@@ -116,11 +108,9 @@ module _ {gens words : List Word} {n : ℕ} {w : World} (query : Query gens word
               (wordAt words q) (letter-there query i h) (node-state query q k) low (read-state query i q k some))
               ∙ sym next-weight
 
-  pub rows-attained : (i q : ℕ) → i ≤ length (w .target) → q < w .count → weightIn w (suc (w .count + i)) q ≤ n
+  pub rows-attained : (i q : ℕ) → i < length (w .target) → q < w .count → weightIn w (suc (w .count + i)) q ≤ n
       → (d : ℕ) × Tight (weightIn w) (suc (w .count + i)) q (partsIn w (suc (w .count + i)) q d)
-  rows-attained zero q h k within =
-      (0, rw (start-parts query q 0) (omega (arith, root-inside query), pair-some query 0 q (root-inside query) k, start-weight q k))
-  rows-attained (suc i) q h k within = next-attained i q h k within
+  rows-attained i q h k within = next-attained i q h k within
 
   -- ---- first series
 
@@ -131,15 +121,11 @@ module _ {gens words : List Word} {n : ℕ} {w : World} (query : Query gens word
       → RowFirst gens measure T x Row i (wordAt words q) r
 
   start-first : RowSo 0
-  start-first q k r (chosen d _ c j others joined no-later) within =
+  start-first q k r f within =
       row-first-start gens measure measure-append n T x Row (entries-exact query) (rows-closed query) (rows-reached query) (wordAt words q) r
       (node-state query q k)
       (subst (λ (u : Word). First gens measure T u (wordAt words q) r) (query .tree .root)
-      (pairs-first query 0 q (root-inside query) k (alone (eqb d 0) (subst (λ (ps : Parts). Joins (partsIn w) (weightIn w) ps r) (start-parts query q d) j))
-      (omega (arith, start-weight q k))))
-    where
-      alone : (t : Bool) → Joins (partsIn w) (weightIn w) (pick t (One 1 q) Nothing) r → Firsts (partsIn w) (weightIn w) 1 q r
-      alone true (one f) = f
+      (pairs-first query 0 q (root-inside query) k f within))
 
   module _ (i : ℕ) (h : i < length (w .target)) (before : RowSo i) where
     joined-row : (q v : ℕ) {ps : Parts} {r : List ℕ} → q < w .count → weightIn w (row (suc i)) q ≤ n → RowWay w i q v ps → readIn w i q ≡ 0
@@ -185,7 +171,7 @@ module _ {gens words : List Word} {n : ℕ} {w : World} (query : Query gens word
             (over z v inside′ (subst (RowTight gens T Row i (letterIn w i) (wordAt words q)) (sym same) tight)))
 
   pub rows-first : (i q : ℕ) → i ≤ length (w .target) → q < w .count → {r : List ℕ}
-      → Firsts (partsIn w) (weightIn w) (suc (w .count + i)) q r → weightIn w (suc (w .count + i)) q ≤ n
+      → Firsts (partsIn w) (weightIn w) (rowItem (w .count) i) q r → weightIn w (rowItem (w .count) i) q ≤ n
       → RowFirst gens measure T x Row i (wordAt words q) r
   rows-first i q h k {r} f within = by i h q k r f within
     where

@@ -2,17 +2,16 @@
 --     rows-closed, rows-reached              the rows at words are closed and attained
 --     row-weight, row-some                   an item of a row weighs the row's entry, 1 or more
 --     letter-there, read-word, state-read    the target's letter, and the node that has it in front of another
---     start-parts, row-way                   the parts of an item of row 0, and of one of a further row
+--     row-way                                the parts of an item of row 1 or a further one
 -- Assumes a query.
 use mathlib.Core.Bool.{Bool, true, false}
 use mathlib.Core.Path.{_≡_, refl, sym, ap, _∙_}
 use mathlib.Core.List.{List, _∷_}
-use Prim.Native.Nat.{ℕ, suc, _+_, _-_, _*_, _≤_, _<_}
+use Prim.Native.Nat.{ℕ, zero, suc, _+_, _-_, _≤_, _<_}
 use native.Mathlib.Decide.{decLe, decLt, ℕ-discrete}
 use native.Mathlib.Omega.{arith}
 use lib.Dec.{eqb}
-use lib.ListN.{length, drop, length-map}
-use lib.Seq.{getD-drop}
+use lib.ListN.{length, length-map}
 use borrow.Author.Tests.{lt-ltb, le-ltb, eq-eqb, ne-eqb}
 use Rattle.words.specs.Word.{Letter, R, S, Word}
 use Rattle.words.specs.Bytes.{letter, word}
@@ -30,17 +29,14 @@ use Rattle.tables.specs.Rules.{place}
 use Rattle.rows.proofs.WordRows.{rowAt, readWord, letter-at, rows-rounds}
 use Rattle.derivations.specs.declared.Parts.{Parts}
 use Rattle.derivations.specs.declared.Parts.the-variants.{One, Two, Nothing}
-use Rattle.derivations.specs.Ways.{World, only, readAt, ofRow, partsIn, weightIn}
+use Rattle.derivations.specs.Ways.{World, rowItem, readAt, nextRow, partsIn, weightIn}
 use Rattle.derivations.specs.Query.{Query}
-use Rattle.derivations.proofs.Nodes.{entryAt, childIn, entries-exact, node-inside, node-state}
+use Rattle.derivations.proofs.Nodes.{entryAt, childIn, entries-exact, node-inside, node-state, table-weight}
 use Rattle.derivations.proofs.Nodes.{child-inside, child-word, state-child, child-state}
 
--- the rows, behind the pairs; and the entry of row i at a word
-abbrev pub rowsIn : World → List ℕ
-rowsIn w = drop (w .count * w .count) (w .counts)
-
-abbrev pub rowIn : List Word → World → ℕ → Word → ℕ
-rowIn words w i q = rowAt words (w .count) (rowsIn w) i q
+-- the entry of row i at a word
+abbrev pub rowIn : {gens words : List Word} {n : ℕ} {w : World} → Query gens words n w → ℕ → Word → ℕ
+rowIn {words = words} {w = w} query i q = rowAt words (w .count) (query .rows) i q
 
 -- letter i of the target, and the node that has it in front of v's word, 0 where there is none
 abbrev pub letterIn : World → ℕ → Letter
@@ -52,48 +48,45 @@ readIn w i v = readAt (w .count) (w .childrenR) (w .childrenS) (w .target) i v
 -- what the parts of an item of row i + 1 at q are in way d
 pub data RowWay (w : World) (i q d : ℕ) : Parts → Type 0 where
   none : RowWay w i q d Nothing
-  reading : (readIn w i q ≡ 0 → ⊥) → RowWay w i q d (One (suc (w .count + i)) (readIn w i q))
-  chaining : readIn w i q ≡ 0 → d < w .count → (readIn w i d ≡ 0 → ⊥) → RowWay w i q d (Two (suc (w .count + i)) (readIn w i d) (suc d) q)
+  reading : (readIn w i q ≡ 0 → ⊥) → RowWay w i q d (One (rowItem (w .count) i) (readIn w i q))
+  chaining : readIn w i q ≡ 0 → d < w .count → (readIn w i d ≡ 0 → ⊥) → RowWay w i q d (Two (rowItem (w .count) i) (readIn w i d) (suc d) q)
 
 module _ {gens words : List Word} {n : ℕ} {w : World} (query : Query gens words n w) where
   pub root-inside : 0 < w .count
   root-inside = omega (arith, query .tree .shape .some, query .size)
 
-  rounds : Rounds gens n (entryAt words w) (word (w .target)) (rowIn words w)
-      (readWord words (w .count) n (w .childrenR) (w .childrenS) (w .target) (w .counts) (rowsIn w))
+  rounds : Rounds gens n (entryAt words w) (word (w .target)) (rowIn query)
+      (readWord words (w .count) n (w .childrenR) (w .childrenS) (w .target) (w .counts) (query .rows))
   rounds =
       rows-rounds gens words (w .count) n (w .letters) (w .rests) (w .childrenR) (w .childrenS) (w .wholes) (w .counts) (query .tree) (query .size)
-      (w .target) (rowsIn w) (query .rows)
+      (w .target) (query .rows) (query .path)
 
-  pub rows-closed : RowsClosed gens n (entryAt words w) (word (w .target)) (rowIn words w)
-  rows-closed = rows-closed-of gens n (entryAt words w) (word (w .target)) (rowIn words w)
+  pub rows-closed : RowsClosed gens n (entryAt words w) (word (w .target)) (rowIn query)
+  rows-closed = rows-closed-of gens n (entryAt words w) (word (w .target)) (rowIn query)
       (exact-closed gens measure measure-append n (entryAt words w) (entries-exact query)) _ rounds
 
-  pub rows-reached : RowsAttained gens n (entryAt words w) (word (w .target)) (rowIn words w)
-  rows-reached = rows-attained-of gens n (entryAt words w) (word (w .target)) (rowIn words w) _ rounds
+  pub rows-reached : RowsAttained gens n (entryAt words w) (word (w .target)) (rowIn query)
+  rows-reached = rows-attained-of gens n (entryAt words w) (word (w .target)) (rowIn query) _ rounds
 
   -- ---- weights
 
   same-length : length (word (w .target)) ≡ length (w .target)
   same-length = length-map (w .target) letter
 
-  pub row-weight : (i q : ℕ) → i ≤ length (w .target) → q < w .count → weightIn w (suc (w .count + i)) q ≡ rowIn words w i (wordAt words q)
-  row-weight i q h k =
-      let few : w .count ≤ mostOfEntry = omega (arith, query .few) in
-      let short : length (w .target) ≤ mostOfEntry = omega (arith, query .short) in
-      let behind : place (w .count) (w .count + i) q ≡ w .count * w .count + place (w .count) i q = omega arith in
-      rw (node-number-at (query .tree) q (node-inside query q k), le-ltb mostOfEntry (w .count) few, le-ltb mostOfEntry (length (w .target)) short)
-      (rw (lt-ltb q (w .count) k, le-ltb (w .count + length (w .target)) (w .count + i) (omega arith), behind)
-      (sym (getD-drop (w .count * w .count) (w .counts) (place (w .count) i q) 0)))
+  pub row-weight : (i q : ℕ) → i ≤ length (w .target) → q < w .count → weightIn w (rowItem (w .count) i) q ≡ rowIn query i (wordAt words q)
+  row-weight zero q h k =
+      rw (node-number-at (query .tree) q (node-inside query q k)) (table-weight query 0 q (omega arith) k ∙ sym (query .path .start q k))
+  row-weight (suc i) q h k =
+      rw (node-number-at (query .tree) q (node-inside query q k)) (table-weight query (w .count + i) q (omega arith) k ∙ query .behind i q h k)
 
   -- where the entry is up to n a series of its class has as many factors, and none of them is empty
-  pub row-some : (i q : ℕ) → i ≤ length (w .target) → q < w .count → 1 ≤ weightIn w (suc (w .count + i)) q
+  pub row-some : (i q : ℕ) → i ≤ length (w .target) → q < w .count → 1 ≤ weightIn w (rowItem (w .count) i) q
   row-some i q h k =
       rw (row-weight i q h k)
-      (elim (decLe (rowIn words w i (wordAt words q)) n) [
+      (elim (decLe (rowIn query i (wordAt words q)) n) [
         | yes l ↦
             let (r, d, e) =
-            row-reached gens measure measure-append n (entryAt words w) (word (w .target)) (rowIn words w) (entries-exact query) rows-reached
+            row-reached gens measure measure-append n (entryAt words w) (word (w .target)) (rowIn query) (entries-exact query) rows-reached
             i (omega (arith, same-length)) (wordAt words q) (node-state query q k) l in
             rw e at
             (weight-positive gens measure measure-append (measure-factor gens) r (reads-series gens (word (w .target)) d)
@@ -120,8 +113,8 @@ module _ {gens words : List Word} {n : ℕ} {w : World} (query : Query gens word
   read-word i v h some = rw (read-child i v) (child-word query (letterIn w i) v h (λ e. some (read-child i v ∙ e)))
 
   pub read-weight : (i v : ℕ) → i ≤ length (w .target) → v < w .count → (readIn w i v ≡ 0 → ⊥)
-      → weightIn w (suc (w .count + i)) (readIn w i v) ≡ rowIn words w i (letterIn w i ∷ wordAt words v)
-  read-weight i v h k some = row-weight i (readIn w i v) h (read-inside i v k) ∙ ap (rowIn words w i) (read-word i v k some)
+      → weightIn w (rowItem (w .count) i) (readIn w i v) ≡ rowIn query i (letterIn w i ∷ wordAt words v)
+  read-weight i v h k some = row-weight i (readIn w i v) h (read-inside i v k) ∙ ap (rowIn query i) (read-word i v k some)
 
   pub read-state : (i v : ℕ) → v < w .count → (readIn w i v ≡ 0 → ⊥) → State gens (letterIn w i ∷ wordAt words v)
   read-state i v h some = child-state query (letterIn w i) v h (λ e. some (read-child i v ∙ e))
@@ -131,37 +124,34 @@ module _ {gens words : List Word} {n : ℕ} {w : World} (query : Query gens word
 
   -- ---- parts
 
-  row-parts : (i q d : ℕ) → partsIn w (suc (w .count + i)) q d ≡ ofRow (w .count) (w .childrenR) (w .childrenS) (w .target) i q d
+  row-parts : (i q d : ℕ) → partsIn w (suc (w .count + i)) q d ≡ nextRow (w .count) (w .childrenR) (w .childrenS) (w .target) i q d
   row-parts i q d =
       let back : w .count + i - w .count ≡ i = omega arith in
       rw (le-ltb (w .count + i) (w .count) (omega arith), back)
 
-  pub start-parts : (q d : ℕ) → partsIn w (suc (w .count + 0)) q d ≡ only d (One 1 q)
-  start-parts q d = row-parts 0 q d
-
-  pub reading-parts : (i q : ℕ) → (readIn w i q ≡ 0 → ⊥) → partsIn w (suc (w .count + suc i)) q 0 ≡ One (suc (w .count + i)) (readIn w i q)
-  reading-parts i q some = rw (row-parts (suc i) q 0, ne-eqb (readIn w i q) 0 some)
+  pub reading-parts : (i q : ℕ) → (readIn w i q ≡ 0 → ⊥) → partsIn w (suc (w .count + i)) q 0 ≡ One (rowItem (w .count) i) (readIn w i q)
+  reading-parts i q some = rw (row-parts i q 0, ne-eqb (readIn w i q) 0 some)
 
   pub chaining-parts : (i q d : ℕ) → readIn w i q ≡ 0 → d < w .count → (readIn w i d ≡ 0 → ⊥)
-      → partsIn w (suc (w .count + suc i)) q d ≡ Two (suc (w .count + i)) (readIn w i d) (suc d) q
+      → partsIn w (suc (w .count + i)) q d ≡ Two (rowItem (w .count) i) (readIn w i d) (suc d) q
   chaining-parts i q d z h some =
-      rw (row-parts (suc i) q d, eq-eqb (readIn w i q) 0 z) (rw (lt-ltb d (w .count) h, ne-eqb (readIn w i d) 0 some))
+      rw (row-parts i q d, eq-eqb (readIn w i q) 0 z) (rw (lt-ltb d (w .count) h, ne-eqb (readIn w i d) 0 some))
 
-  pub row-way : (i q d : ℕ) → RowWay w i q d (partsIn w (suc (w .count + suc i)) q d)
+  pub row-way : (i q d : ℕ) → RowWay w i q d (partsIn w (suc (w .count + i)) q d)
   row-way i q d =
       elim (ℕ-discrete (readIn w i q) 0) [
         | yes z ↦
             elim (decLt d (w .count)) [
               | yes h ↦
                   elim (ℕ-discrete (readIn w i d) 0) [
-                    | yes z′ ↦ rw (row-parts (suc i) q d, eq-eqb (readIn w i q) 0 z) (rw (lt-ltb d (w .count) h, eq-eqb (readIn w i d) 0 z′) none)
+                    | yes z′ ↦ rw (row-parts i q d, eq-eqb (readIn w i q) 0 z) (rw (lt-ltb d (w .count) h, eq-eqb (readIn w i d) 0 z′) none)
                     | no some ↦ rw (chaining-parts i q d z h some) (chaining z h some)
                   ]
-              | no h ↦ rw (row-parts (suc i) q d, eq-eqb (readIn w i q) 0 z) (rw (le-ltb d (w .count) (omega arith)) none)
+              | no h ↦ rw (row-parts i q d, eq-eqb (readIn w i q) 0 z) (rw (le-ltb d (w .count) (omega arith)) none)
             ]
-        | no some ↦ rw (row-parts (suc i) q d, ne-eqb (readIn w i q) 0 some) (first-only (eqb d 0) some)
+        | no some ↦ rw (row-parts i q d, ne-eqb (readIn w i q) 0 some) (first-only (eqb d 0) some)
       ]
     where
-      first-only : (t : Bool) → (readIn w i q ≡ 0 → ⊥) → RowWay w i q d (pick t (One (suc (w .count + i)) (readIn w i q)) Nothing)
+      first-only : (t : Bool) → (readIn w i q ≡ 0 → ⊥) → RowWay w i q d (pick t (One (rowItem (w .count) i) (readIn w i q)) Nothing)
       first-only true some = reading some
       first-only false some = none

@@ -3,6 +3,7 @@
 --     item-inside      any other item that weighs 1 or more is inside the table, and weighs what stands there
 --     tight-weight     where parts are tight the item weighs 1 or more
 --     no-more-ways     from `ways` on no parts are tight
+--     row-behind-pairs the items of row 1 and of each further row stand behind the pairs
 -- Assumes nothing.
 use mathlib.Core.Bool.{Bool, true, false}
 use mathlib.Core.Path.{_≡_, refl, subst, _∙_}
@@ -18,7 +19,11 @@ use Rattle.tables.specs.Rules.{place}
 use Rattle.derivations.specs.declared.Parts.{Parts}
 use Rattle.derivations.specs.declared.Parts.the-variants.{One, Two, Nothing}
 use Rattle.derivations.specs.Derivations.{Tight}
-use Rattle.derivations.specs.Ways.{World, unless, shift, readAt, ofRow, ways, partsIn, weightIn}
+use Rattle.derivations.specs.Ways.{World, rowItem, unless, shift, readAt, nextRow, ways, partsIn, weightIn}
+
+pub row-behind-pairs : (count i : ℕ) → (i ≡ 0 → ⊥) → count + i ≡ rowItem count i
+row-behind-pairs count zero some = absurd (some refl)
+row-behind-pairs count (suc i) some = omega arith
 
 -- where a value or 0 is picked, and it is not 0, it is the value
 picked : (t : Bool) (a : ℕ) → 1 ≤ pick t a 0 → (t ≡ true) × (pick t a 0 ≡ a)
@@ -40,17 +45,17 @@ module _ (w : World) where
   factor-weight j h = let (e, v) = picked (ltb j (length (w .wholes))) 1 h in (v, ltb-true j (length (w .wholes)) e)
 
   pub item-inside : (p y : ℕ) → 1 ≤ weightIn w (suc p) y
-      → (y < w .count) × (p ≤ w .count + length (w .target)) × (weightIn w (suc p) y ≡ at (w .counts) (place (w .count) p y))
+      → (y < w .count) × (p < w .count + length (w .target)) × (weightIn w (suc p) y ≡ at (w .counts) (place (w .count) p y))
   item-inside p y h =
       let entry : ℕ = at (w .counts) (place (w .count) p y) in
-      let inside : ℕ = pick (ltb (w .count + length (w .target)) p) 0 entry in
+      let inside : ℕ = pick (ltb p (w .count + length (w .target))) entry 0 in
       let told : ℕ = pick (ltb y (w .count)) inside 0 in
       let short : ℕ = pick (ltb mostOfEntry (length (w .target))) 0 told in
       let (_, is-short) = passed (ltb mostOfEntry (w .count)) short h in
       let (_, is-told) = passed (ltb mostOfEntry (length (w .target))) told (omega arith) in
       let (a, is-inside) = picked (ltb y (w .count)) inside (omega arith) in
-      let (b, is-entry) = passed (ltb (w .count + length (w .target)) p) entry (omega arith) in
-      (ltb-true y (w .count) a, ltb-false (w .count + length (w .target)) p b, is-short ∙ is-told ∙ is-inside ∙ is-entry)
+      let (b, is-entry) = picked (ltb p (w .count + length (w .target))) entry (omega arith) in
+      (ltb-true y (w .count) a, ltb-true p (w .count + length (w .target)) b, is-short ∙ is-told ∙ is-inside ∙ is-entry)
 
   few-told : (p y : ℕ) → 1 ≤ weightIn w (suc p) y → w .count ≤ mostOfEntry
   few-told p y h = ltb-false mostOfEntry (w .count) (passed (ltb mostOfEntry (w .count)) _ h .0)
@@ -61,9 +66,8 @@ module _ (w : World) where
   unless-behind (Two a b c e) p y d some h = simp (le-ltb d (w .count) (omega arith), le-ltb (d - w .count) (w .count) (omega arith))
   unless-behind Nothing p y d some h = simp (le-ltb d (w .count) (omega arith), le-ltb (d - w .count) (w .count) (omega arith))
 
-  row-behind : (i q d : ℕ) → 1 ≤ w .count → w .count ≤ d → ofRow (w .count) (w .childrenR) (w .childrenS) (w .target) i q d ≡ Nothing
-  row-behind zero q d some h = rw (ne-eqb d 0 (λ e. omega arith))
-  row-behind (suc i) q d some h =
+  row-behind : (i q d : ℕ) → 1 ≤ w .count → w .count ≤ d → nextRow (w .count) (w .childrenR) (w .childrenS) (w .target) i q d ≡ Nothing
+  row-behind i q d some h =
       rw (le-ltb d (w .count) h, ne-eqb d 0 (λ e. omega arith))
       (pick-both (eqb (readAt (w .count) (w .childrenR) (w .childrenS) (w .target) i q) 0))
     where

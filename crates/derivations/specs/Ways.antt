@@ -1,8 +1,9 @@
 -- The items of a list and a target, and their parts. With `count` nodes in the tree of the list's suffixes, an item is
 --     (0, j)             the factor j
 --     (p + 1, y)         the pair of the nodes p and y: what leads from the word of p to that of y
---     (count + i + 1, q) row i of the target at the node q: what makes the target's first i letters and then the word of q
--- so that the counts of pairs, and behind them those of rows, are one table with `count` in a row: item (p + 1, y) stands at p * count + y.
+--     (count + i, q)     row i of the target at the node q, for i from 1 on: what makes the target's first i letters and then the word of q
+-- so that the counts of pairs, and behind them those of rows, are one table with `count` in a row: item (p + 1, y) stands at p * count + y. Row 0 is the
+-- pairs of node 0, and stands there once.
 -- A way is a number from 0 on, below `ways`. Numbers only. Assumes nothing: these are definitions.
 use mathlib.Core.Bool.{Bool, false}
 use mathlib.Core.List.{List}
@@ -82,25 +83,25 @@ byFactor wholes counts y d =
     (pick (eqb (at counts y) 1) (pick (eqb (at wholes d) y) (One 0 d) Nothing) (Two 0 d (suc (at wholes d)) y))
     Nothing
 
+-- the first number of the items of row i
+abbrev pub rowItem : ℕ → ℕ → ℕ
+rowItem count zero = 1
+rowItem count (suc i) = suc (count + i)
+
 module _ (count : ℕ) (childrenR childrenS target : List ℕ) where
   -- the node with letter i of the target in front of v's word
   abbrev pub readAt : ℕ → ℕ → ℕ
   readAt i v = childBy childrenR childrenS (at target i) v
 
   abbrev pub chain : ℕ → ℕ → ℕ → ℕ → Parts
-  chain i q d c = pick (eqb c 0) Nothing (Two (suc (count + i)) c (suc d) q)
+  chain i q d c = pick (eqb c 0) Nothing (Two (rowItem count i) c (suc d) q)
 
   -- Row i + 1: letter i is read where it can stand before q's word, and else before the word of some node d.
   abbrev pub nextRow : ℕ → ℕ → ℕ → Parts
   nextRow i q d =
       pick (eqb (readAt i q) 0)
       (pick (ltb d count) (chain i q d (readAt i d)) Nothing)
-      (only d (One (suc (count + i)) (readAt i q)))
-
-  -- row 0 is the pairs of node 0
-  abbrev pub ofRow : ℕ → ℕ → ℕ → Parts
-  ofRow zero q d = only d (One 1 q)
-  ofRow (suc i) q d = nextRow i q d
+      (only d (One (rowItem count i) (readAt i q)))
 
 module _ (count : ℕ) (letters rests childrenR childrenS wholes counts : List ℕ) where
   abbrev pub ofPair : ℕ → ℕ → ℕ → Parts
@@ -113,7 +114,7 @@ module _ (count : ℕ) (letters rests childrenR childrenS wholes target counts :
   abbrev pub parts : ℕ → ℕ → ℕ → Parts
   parts zero y d = Nothing
   parts (suc p) y d =
-      pick (ltb p count) (ofPair count letters rests childrenR childrenS wholes counts p y d) (ofRow count childrenR childrenS target (p - count) y d)
+      pick (ltb p count) (ofPair count letters rests childrenR childrenS wholes counts p y d) (nextRow count childrenR childrenS target (p - count) y d)
 
 -- What an item weighs: a factor 1, any other what the table says; and what is no item weighs 0. More nodes or letters than an entry can tell are not read.
 module _ (count generators letters : ℕ) (counts : List ℕ) where
@@ -121,7 +122,7 @@ module _ (count generators letters : ℕ) (counts : List ℕ) where
   weigh zero y = pick (ltb y generators) 1 0
   weigh (suc p) y =
       pick (ltb mostOfEntry count) 0
-      (pick (ltb mostOfEntry letters) 0 (pick (ltb y count) (pick (ltb (count + letters) p) 0 (at counts (place count p y))) 0))
+      (pick (ltb mostOfEntry letters) 0 (pick (ltb y count) (pick (ltb p (count + letters)) (at counts (place count p y)) 0) 0))
 
 -- No way from this number on has parts that weigh what the item does.
 abbrev pub ways : ℕ → ℕ → ℕ → ℕ
@@ -157,6 +158,10 @@ partsIn w x y d = parts (w .count) (w .letters) (w .rests) (w .childrenR) (w .ch
 abbrev pub weightIn : World → ℕ → ℕ → ℕ
 weightIn w x y = weigh (w .count) (length (w .wholes)) (length (w .target)) (w .counts) x y
 
+-- no item has a greater first number
+abbrev pub highest : World → ℕ
+highest w = w .count + length (w .target)
+
 -- the last row at node 0: what makes the target
 abbrev pub whole : World → ℕ
-whole w = suc (w .count + length (w .target))
+whole w = rowItem (w .count) (length (w .target))

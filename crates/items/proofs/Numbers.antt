@@ -7,10 +7,10 @@ use native.Mathlib.Nat.{mul-le-mul}
 use native.Mathlib.Omega.{arith}
 use borrow.Author.Tests.{lt-ltb, le-ltb}
 use Rattle.trees.specs.Tree.{mostOfEntry}
-use Rattle.derivations.specs.Ways.{World, weigh, ofPair, ofRow, nextRow, partsIn}
+use Rattle.derivations.specs.Ways.{World, weigh, ofPair, nextRow, partsIn}
 
 -- neither the nodes nor the letters are more than 16 bits tell, so that a row's place is a number of 64
-pub row-place : (count letters p : ℕ) → count ≤ mostOfEntry → letters ≤ mostOfEntry → p ≤ count + letters → p * count ≤ 8589672450
+pub row-place : (count letters p : ℕ) → count ≤ mostOfEntry → letters ≤ mostOfEntry → p < count + letters → p * count ≤ 8589672450
 row-place count letters p few short inside = let low : p ≤ 131070 = omega arith in mul-le-mul low few
 
 one-less : (p : ℕ) → suc p - 1 ≡ p
@@ -21,11 +21,6 @@ pub weigh-table : (count generators letters : ℕ) (counts : List ℕ) (x y : �
 weigh-table count generators letters counts zero y some = absurd (some refl)
 weigh-table count generators letters counts (suc p) y some = rw (one-less p) refl
 
-pub row-next : (count : ℕ) (childrenR childrenS target : List ℕ) (i q d : ℕ) → (i ≡ 0 → ⊥)
-    → nextRow count childrenR childrenS target (i - 1) q d ≡ ofRow count childrenR childrenS target i q d
-row-next count childrenR childrenS target zero q d some = absurd (some refl)
-row-next count childrenR childrenS target (suc i) q d some = rw (one-less i) refl
-
 module _ (w : World) where
   pub parts-pair : (x y d : ℕ) → (x ≡ 0 → ⊥) → x - 1 < w .count
       → ofPair (w .count) (w .letters) (w .rests) (w .childrenR) (w .childrenS) (w .wholes) (w .counts) (x - 1) y d ≡ partsIn w x y d
@@ -33,6 +28,6 @@ module _ (w : World) where
   parts-pair (suc p) y d some inside = rw (one-less p, lt-ltb p (w .count) (omega arith)) refl
 
   pub parts-row : (x y d : ℕ) → (x ≡ 0 → ⊥) → w .count ≤ x - 1
-      → ofRow (w .count) (w .childrenR) (w .childrenS) (w .target) (x - 1 - w .count) y d ≡ partsIn w x y d
+      → nextRow (w .count) (w .childrenR) (w .childrenS) (w .target) (x - 1 - w .count) y d ≡ partsIn w x y d
   parts-row zero y d some behind = absurd (some refl)
   parts-row (suc p) y d some behind = rw (one-less p, le-ltb p (w .count) (omega arith)) refl

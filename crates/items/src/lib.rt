@@ -81,7 +81,7 @@ pub fn parts(
             d,
         );
     }
-    rows::of_row(
+    rows::next_row(
         target,
         count,
         children_r,

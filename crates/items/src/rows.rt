@@ -5,10 +5,21 @@ use crate::shifts::only_one;
 use derivations::Parts;
 ghost use mathlib.Core.Path.{_≡_};
 ghost use Prim.Native.Nat.{_+_, _<_};
-ghost use Rattle.derivations.specs.Ways.{nextRow, ofRow};
+ghost use Rattle.derivations.specs.Ways.{rowItem, nextRow as nextRowOf};
 
-// Row i + 1, and x is row i's first number.
-fn next_row(
+// The first number of row i, where `next` is that of row i + 1: row 0 is the pairs of node 0.
+fn row_item(count: usize, i: usize, next: usize) -> usize
+    requires { ⌜ next ≡ count + i + 1 ⌝ }
+    ensures { λ r. ⌜ r ≡ rowItem count i ⌝ }
+{
+    if i == 0 {
+        return 1;
+    }
+    next - 1
+}
+
+// The parts of row i + 1 at node q in a way; the row's first number is x.
+pub(crate) fn next_row(
     target: &[u8],
     count: usize,
     children_r: &[u16],
@@ -19,12 +30,13 @@ fn next_row(
     d: usize,
 ) -> Parts
     requires { ⌜ x ≡ count + i + 1 ⌝ }
-    ensures { λ r. ⌜ r ≡ nextRow count (now («children_r» .entry)) (now («children_s» .entry)) (now (target .entry)) i q d ⌝ }
+    ensures { λ r. ⌜ r ≡ nextRowOf count (now («children_r» .entry)) (now («children_s» .entry)) (now (target .entry)) i q d ⌝ }
 {
     let byte = letter_of(target, i);
+    let row = row_item(count, i, x);
     let c = child_by(children_r, children_s, byte, q);
     if c != 0 {
-        return only_one(d, x, c);
+        return only_one(d, row, c);
     }
     if count <= d {
         return Parts::Nothing;
@@ -33,25 +45,5 @@ fn next_row(
     if b == 0 {
         return Parts::Nothing;
     }
-    Parts::Two(x, b, d + 1, q)
-}
-
-// The parts of row i at node q in a way; the row's first number is count + i + 1.
-pub(crate) fn of_row(
-    target: &[u8],
-    count: usize,
-    children_r: &[u16],
-    children_s: &[u16],
-    i: usize,
-    x: usize,
-    q: usize,
-    d: usize,
-) -> Parts
-    requires { ⌜ x ≡ count + i + 1 ⌝ }
-    ensures { λ r. ⌜ r ≡ ofRow count (now («children_r» .entry)) (now («children_s» .entry)) (now (target .entry)) i q d ⌝ }
-{
-    if i == 0 {
-        return only_one(d, 1, q);
-    }
-    next_row(target, count, children_r, children_s, i - 1, x - 1, q, d)
+    Parts::Two(row, b, d + 1, q)
 }

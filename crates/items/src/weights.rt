@@ -32,7 +32,7 @@ pub(crate) fn in_table(count: usize, letters: usize, counts: &[u16], p: usize, y
     if count <= y {
         return 0;
     }
-    if count + letters < p {
+    if count + letters <= p {
         return 0;
     }
     entry(counts, p * count + y)

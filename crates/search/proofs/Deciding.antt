@@ -4,21 +4,20 @@
 -- Assumes that the tables are filled.
 use mathlib.Core.Path.{_≡_, refl, sym, ap, subst, _∙_}
 use mathlib.Core.List.{List}
-use Prim.Native.Nat.{ℕ, _+_, _*_, _≤_, _<_}
+use Prim.Native.Nat.{ℕ, _*_, _≤_, _<_}
 use native.Mathlib.Omega.{arith}
 use lib.ListN.{length, take, drop}
-use lib.Seq.{getD-drop}
-use borrow.Author.Tests.{lt-ltb, le-ltb}
 use Rattle.words.specs.Word.{Word}
 use Rattle.words.specs.Bytes.{word}
 use Rattle.products.specs.Product.{MemberRight, plain}
 use Rattle.products.specs.State.{LeastLead}
-use Rattle.trees.specs.Tree.{at, mostOfEntry, wordAt}
+use Rattle.trees.specs.Tree.{at, wordAt}
+use Rattle.trees.proofs.Nodes.{node-number-at}
 use Rattle.tables.specs.Rules.{place}
 use Rattle.derivations.specs.Ways.{World, world, partsIn, weightIn, whole}
 use Rattle.derivations.specs.Query.{Query}
 use Rattle.derivations.proofs.Series.{firsts-length}
-use Rattle.derivations.proofs.RowParts.{row-some, root-inside}
+use Rattle.derivations.proofs.RowParts.{row-weight, row-some, root-inside}
 use Rattle.derivations.proofs.Answer.{attained, derived-right, none-right}
 use Rattle.search.specs.Search.{Lent, used, Posed}
 use Rattle.witness.specs.Witness.{Spells, Fits, Derivable, Writes}
@@ -41,35 +40,29 @@ module _ {count : ℕ} {letters rests childrenR childrenS wholes target : List �
     -- every list that is posed is a query
     query : {gens words : List Word} → Posed gens words count letters rests childrenR childrenS wholes target → Query gens words n w
     query {gens} {words} posed =
-        let size = posed .size in
-        let shape = posed .tree .shape in
         record {
           normal = posed .normal;
           tree = posed .tree;
           size = posed .size;
           few = tabulated .room .few;
           target-normal = posed .target-normal;
-          target-some = posed .target-some;
           short = tabulated .room .short;
           exact = λ p q h k.
               subst (LeastLead gens n (wordAt words p) (wordAt words q)) (sym (laid .pair p q h k)) (tabulated .exact gens words posed p q h k);
-          rows =
-              path-same (tabulated .rows) (λ v h. rw (sym size) (shape .child-r-inside v (omega arith))) (λ v h. rw (sym size) (shape .child-s-inside v (omega arith)))
-              counts (drop (count * count) counts) (laid .pair) (laid .row);
+          rows = lent .second;
+          path = path-same (tabulated .rows) counts (laid .pair);
+          behind = laid .row;
         }
 
     -- the target's item weighs the last row's entry
-    last-weight : weightIn w (whole w) 0 ≡ lastEntry
-    last-weight =
-        let few : count ≤ mostOfEntry = omega (arith, tabulated .room .few) in
-        let short : length target ≤ mostOfEntry = omega (arith, tabulated .room .short) in
-        let behind : place count (count + length target) 0 ≡ count * count + place count (length target) 0 = omega arith in
-        let first-column : place count (length target) 0 ≡ length target * count = omega arith in
-        let some = tabulated .some in
-        rw (le-ltb mostOfEntry count few, le-ltb mostOfEntry (length target) short, lt-ltb 0 count (omega arith))
-        (rw (le-ltb (count + length target) (count + length target) (omega arith), behind)
-        (sym (getD-drop (count * count) counts (place count (length target) 0) 0) ∙ laid .row (length target) 0 (omega arith) (omega arith)
-        ∙ ap (at (lent .second)) first-column))
+    last-weight : {gens words : List Word} → Posed gens words count letters rests childrenR childrenS wholes target → weightIn w (whole w) 0 ≡ lastEntry
+    unfolding query
+    last-weight posed =
+        let q = query posed in
+        let root = node-number-at (posed .tree) 0 (omega (arith, root-inside q, posed .size)) in
+        row-weight q (length target) 0 (omega arith) (root-inside q)
+        ∙ ap (λ (p : ℕ). at (lent .second) (place count (length target) p)) root
+        ∙ ap (at (lent .second)) (omega arith)
 
     witness-fits : Fits w n (lent .second) (lent .witness)
     witness-fits =
@@ -81,11 +74,12 @@ module _ {count : ℕ} {letters rests childrenR childrenS wholes target : List �
         }
 
     -- the target's item weighs 1 or more, so where that is at most the bound it can be derived
-    derivable : {gens words : List Word} → Query gens words n w → lastEntry ≤ n → Derivable w n
-    derivable q within =
+    derivable : {gens words : List Word} → Posed gens words count letters rests childrenR childrenS wholes target → lastEntry ≤ n → Derivable w n
+    derivable posed within =
+        let q = query posed in
         record {
           some = row-some q (length target) 0 (omega arith) (root-inside q);
-          within = omega (arith, last-weight);
+          within = omega (arith, last-weight posed);
           attained = attained q;
         }
 
@@ -109,7 +103,7 @@ module _ {count : ℕ} {letters rests childrenR childrenS wholes target : List �
         }
     written-answered Unfit within kept (unfit, same, second-kept) =
         record {
-          answers = λ gens words posed. unfit witness-fits (derivable (query posed) within);
+          answers = λ gens words posed. unfit witness-fits (derivable posed within);
           first = kept;
           second = second-kept;
           unwritten = λ e. same;
@@ -119,7 +113,7 @@ module _ {count : ℕ} {letters rests childrenR childrenS wholes target : List �
   none-answered above =
       let laid = laid-append count (length target) (lent .first) (lent .second) (omega (arith, tabulated .room .first)) in
       record {
-        answers = λ gens words posed. (none-right (query _ laid posed) (omega (arith, last-weight _ laid)), refl);
+        answers = λ gens words posed. (none-right (query _ laid posed) (omega (arith, last-weight _ laid posed)), refl);
         first = refl;
         second = refl;
         unwritten = λ e. refl;

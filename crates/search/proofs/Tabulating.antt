@@ -1,4 +1,5 @@
 -- The table and then the rows are filled, and what is known then.
+--     rows-used      there is room for the rows where there is for the entries that are used
 --     tabulated      what the answer asks for
 --     searched       and what it answers is what the search promises
 --     unsearched     where the inputs do not fit nothing changes
@@ -6,7 +7,8 @@
 use mathlib.Core.Bool.{Bool}
 use mathlib.Core.Path.{refl, _∙_}
 use mathlib.Core.List.{List}
-use Prim.Native.Nat.{ℕ, suc, _*_}
+use Prim.Native.Nat.{ℕ, zero, suc, _*_, _≤_}
+use native.Mathlib.Nat.{mul-le-mul-right}
 use native.Mathlib.Omega.{arith}
 use lib.ListN.{length}
 use Rattle.products.specs.Product.{measure}
@@ -19,6 +21,10 @@ use Rattle.search.specs.Answering.{Tabulated, Answered}
 use Rattle.search.specs.declared.Found.{Found}
 use Rattle.search.specs.declared.Found.the-variants.{Unfit}
 
+pub rows-used : (count t : ℕ) → suc t * count ≤ used count t
+rows-used zero t = omega arith
+rows-used (suc c) t = mul-le-mul-right (suc c) (omega arith)
+
 -- the tables are written, and the witness is not
 abbrev tabled : List ℕ → List ℕ → Lent → Lent
 tabled table rows lent = record { first = table; second = rows; witness = lent .witness }
@@ -30,7 +36,7 @@ module _ {count n : ℕ} {letters rests childrenR childrenS wholes target : List
     by-rows : RowsFilled count n childrenR childrenS target table (lent .second) rows
     by-rows =
         rows-filled r fills
-        (filled-fits target (lent .second) (fits .table) filled (fits .room .few) (fits .room .short) (omega (arith, fits .room .second)))
+        (filled-fits target (lent .second) (fits .table) filled (fits .room .few) (fits .room .short) (omega (arith, rows-used count (length target), fits .room .second)))
 
     pub tabulated : Tabulated count letters rests childrenR childrenS wholes target n (tabled table rows lent)
     tabulated =
@@ -59,7 +65,8 @@ module _ {count n : ℕ} {letters rests childrenR childrenS wholes target : List
               ∙ drop-later (count * count) (used count (length target)) table (lent .first) (omega arith) (filled .kept);
           second =
               answered .second
-              ∙ drop-later (suc (length target) * count) (used count (length target)) rows (lent .second) (omega arith) (by-rows .kept);
+              ∙ drop-later (suc (length target) * count) (used count (length target)) rows (lent .second)
+              (rows-used count (length target)) (by-rows .kept);
           unfit = λ unfit. absurd (unfit fits);
           unwritten = answered .unwritten;
         }

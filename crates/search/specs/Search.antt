@@ -1,8 +1,7 @@
 -- What the search for the first of the least series promises. Assumes nothing: these are definitions.
 use mathlib.Core.Path.{_≡_}
-use mathlib.Core.Logic.{_≢_}
-use mathlib.Core.List.{List, []}
-use Prim.Native.Nat.{ℕ, suc, _+_, _*_, _≤_}
+use mathlib.Core.List.{List}
+use Prim.Native.Nat.{ℕ, _+_, _*_, _≤_}
 use lib.ListN.{length, take, drop}
 use Rattle.limits.specs.Limits.{mostLetters, mostStates}
 use Rattle.words.specs.Word.{Word, Normal}
@@ -20,9 +19,9 @@ pub record Lent : Type 0 where
   pub second : List ℕ
   pub witness : List ℕ
 
--- How many entries of each table are used: a row for each node and, behind them, one for each letter of the target and one more.
+-- How many entries of each table are used: a row for each node and, behind them, one for each letter of the target.
 abbrev pub used : ℕ → ℕ → ℕ
-used count letters = (count + suc letters) * count
+used count letters = (count + letters) * count
 
 -- No more nodes than a list has, a target that question 8 lets pass, generators whose numbers fit in bytes, the entries that are used, and a byte for
 -- each factor.
@@ -38,13 +37,12 @@ pub record Fits (count : ℕ) (letters rests childrenR childrenS wholes target :
   pub room : Room count n (length target) (length wholes) (length (lent .first)) (length (lent .second)) (length (lent .witness))
   pub table : TableFits count letters rests childrenR childrenS wholes n (lent .first)
 
--- The slices are the tree of reduced generators, and the target is normal and not empty.
+-- The slices are the tree of reduced generators, and the target is normal.
 pub record Posed (gens words : List Word) (count : ℕ) (letters rests childrenR childrenS wholes target : List ℕ) : Type 0 where
   pub normal : AllNormal gens
   pub tree : Tree gens words letters rests childrenR childrenS wholes
   pub size : length words ≡ count
   pub target-normal : Normal (word target)
-  pub target-some : word target ≢ []
 
 -- An answer is right for the target, and leaves what stands in the witness behind the factors. Of a list that is posed no answer is Unfit.
 abbrev pub Answers : List Word → List ℕ → ℕ → List ℕ → Found → List ℕ → Type 0

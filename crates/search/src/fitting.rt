@@ -29,7 +29,7 @@ pub(crate) fn has_room(
     if witness < n.0 as usize {
         return false;
     }
-    let used = (count + letters + 1) * count;
+    let used = (count + letters) * count;
     if first < used {
         return false;
     }

@@ -29,8 +29,8 @@ fn of_written(written: Written) -> Found
     }
 }
 
-// What stands at the end of the last row decides: the count of a least series, or n + 1. Where it is a count the rows are carried behind the table, and the
-// choices are made where the rows were.
+// What stands at the end of the last row decides: the count of a least series, or n + 1. Where it is a count the rows are carried behind the table, from
+// row 1 on, since row 0 is the table's first; and the choices are made where the rows were.
 fn answer(
     target: &[u8],
     count: usize,
@@ -54,7 +54,8 @@ fn answer(
     if n.0 as usize + 1 <= entry(second, target.len() * count) {
         return Found::None;
     }
-    carry(&second[..(target.len() + 1) * count], first, count * count);
+    let end = (target.len() + 1) * count;
+    carry(&second[count..end], first, count * count);
     of_written(witness::first_series(
         target,
         count,

@@ -7,7 +7,7 @@
 -- Assumes nothing.
 use mathlib.Core.Logic.{inl, inr}
 use mathlib.Core.Bool.{Bool, true, false}
-use mathlib.Core.Path.{_≡_, ap, subst, _∙_}
+use mathlib.Core.Path.{_≡_, refl, ap, subst, _∙_}
 use mathlib.Core.List.{List}
 use Prim.Native.Nat.{ℕ, _+_, _≤_, _<_}
 use native.Mathlib.Decide.{decLt}
@@ -18,7 +18,7 @@ use Rattle.witness.specs.Choices.{marked, choiceAt, Coded, Item, Small}
 use Rattle.witness.specs.Due.{DueAt, StandsAt}
 use Rattle.witness.specs.Sweeping.{swept, Above, MarkState, unwanted, pending, closed, Marking}
 use Rattle.witness.specs.Sweeping.{ChoiceState, untouched, ahead, Choosing, Stuck, ChoosingOr, ChoosesTo}
-use Rattle.witness.proofs.Places.{item-swept, stands-item, keeps-none, keeps-then}
+use Rattle.witness.proofs.Places.{item-swept, stands-item, keeps-none, keeps-then, whole-item}
 use Rattle.witness.proofs.ItemChoices.{choosing-moves, choosing-passes, wanted-coded}
 
 module _ (w : World) where
@@ -98,4 +98,4 @@ module _ (w : World) where
   pub choosing-ends : {choices : List ℕ} (k : ℕ) → weightIn w (whole w) 0 ≡ k → Choosing w (k + 1) 0 choices
       → Coded (choiceAt (w .count) choices (whole w) 0)
   choosing-ends k weighs choosing =
-      wanted-coded w (whole w) 0 (lighter-passed k (whole w) 0 weighs) (choosing .root) (choosing .states (whole w) 0 (omega arith, choosing .item))
+      wanted-coded w (whole w) 0 (lighter-passed k (whole w) 0 weighs) (choosing .root) (choosing .states (whole w) 0 (whole-item w (whole w) refl (choosing .item)))

@@ -22,7 +22,7 @@ use Rattle.products.specs.Product.{Before, smaller, further}
 use Rattle.products.proofs.Order.{before-behind}
 use Rattle.trees.specs.Tree.{at}
 use Rattle.derivations.specs.Derivations.{Firsts, factor, chosen}
-use Rattle.derivations.specs.Ways.{World, partsIn, weightIn}
+use Rattle.derivations.specs.Ways.{World, partsIn, weightIn, highest}
 use Rattle.derivations.proofs.Series.{firsts-unique}
 use Rattle.derivations.proofs.Steps.{steps-some}
 use Rattle.witness.specs.Stacks.{stacked, weightOf, stepsLeft, none, more, Ready, Standing, TakenApart}
@@ -104,7 +104,7 @@ module _ (w : World) where
         }
 
     rest-falls : stepsLeft w (stacked xs ys (height - 1)) < stepsLeft w (stacked xs ys height)
-    rest-falls = rw on-top (omega (arith, steps-some (w .count + length (w .target)) (weightIn w x y) x (ready .0)))
+    rest-falls = rw on-top (omega (arith, steps-some (highest w) (weightIn w x y) x (ready .0)))
 
 -- ---- the stacks
 

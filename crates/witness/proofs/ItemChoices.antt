@@ -5,7 +5,7 @@
 -- Assumes nothing.
 use mathlib.Core.Logic.{inl, inr}
 use mathlib.Core.Bool.{Bool, true, false}
-use mathlib.Core.Path.{_≡_, sym, subst, _∙_}
+use mathlib.Core.Path.{_≡_, refl, sym, subst, _∙_}
 use mathlib.Core.List.{List}
 use Prim.Native.Nat.{ℕ, suc, _+_, _≤_}
 use native.Mathlib.Decide.{decLt, ℕ-discrete}
@@ -19,7 +19,7 @@ use Rattle.witness.specs.Choices.{marked, choiceAt, Coded, cells, Item, 
 use Rattle.witness.specs.Marking.{Wanted, PartsWanted, Closed, Keeps}
 use Rattle.witness.specs.Due.{SomeDue}
 use Rattle.witness.specs.Sweeping.{placeOf, Above, ChoiceState, untouched, ahead, settled, Choosing, Stuck, ChoosesTo}
-use Rattle.witness.proofs.Places.{Same, same-or-other, of-same, item-weight, same-place, choice-stored, choice-elsewhere, keeps-none, keeps-stored}
+use Rattle.witness.proofs.Places.{Same, same-or-other, of-same, item-weight, same-place, choice-stored, choice-elsewhere, keeps-none, keeps-stored, whole-item}
 use Rattle.witness.proofs.Lowering.{PartLower, PartsLower, tight-lower, lower-not-above}
 use Rattle.witness.proofs.Marks.{More, closed-more}
 
@@ -196,7 +196,7 @@ module _ (w : World) where
             | inr differ ↦ state-elsewhere a b other differ (choosing .states a b other)
           ];
           item = choosing .item;
-          root = chosen-more (whole w) 0 (omega arith, choosing .item) (choosing .root);
+          root = chosen-more (whole w) 0 (whole-item w (whole w) refl (choosing .item)) (choosing .root);
         }
 
   -- no way of the item is tight

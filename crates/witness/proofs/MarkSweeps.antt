@@ -6,7 +6,7 @@
 --     marking-begins                   it begins where only the target's item is needed
 -- Assumes nothing.
 use mathlib.Core.Logic.{inl, inr}
-use mathlib.Core.Path.{_≡_, sym, ap, ap₂, subst, _∙_}
+use mathlib.Core.Path.{_≡_, refl, sym, ap, ap₂, subst, _∙_}
 use mathlib.Core.List.{List}
 use Prim.Native.Nat.{ℕ, suc, _+_, _-_, _*_, _≤_}
 use native.Mathlib.Decide.{decLt, ℕ-discrete}
@@ -18,13 +18,13 @@ use Rattle.limits.specs.Limits.{mostLetters, mostStates}
 use Rattle.slices.specs.Slices.{overwritten}
 use Rattle.trees.specs.Tree.{mostOfEntry}
 use Rattle.tables.specs.Rules.{place}
-use Rattle.derivations.specs.Ways.{World, weightIn, whole}
+use Rattle.derivations.specs.Ways.{World, weightIn, highest, whole}
 use Rattle.witness.specs.Choices.{needed, marked, choiceAt, cells, Item, Small}
 use Rattle.witness.specs.Marking.{Keeps, Marks}
 use Rattle.witness.specs.Due.{DueAt, SomeDue}
 use Rattle.witness.specs.Sweeping.{placeOf, swept, Below, MarkState, unwanted, pending, closed, Marking, MarksTo}
 use Rattle.witness.proofs.Places.{Same, same-or-other, of-same, item-place, item-weight, item-swept, same-place}
-use Rattle.witness.proofs.Places.{choice-stored, choice-elsewhere, keeps-none, keeps-then, keeps-stored, whole-cells}
+use Rattle.witness.proofs.Places.{choice-stored, choice-elsewhere, keeps-none, keeps-then, keeps-stored, whole-item}
 use Rattle.witness.proofs.Lowering.{lower-below}
 use Rattle.witness.proofs.Marks.{Change, More, closed-more, grows-more}
 
@@ -32,12 +32,12 @@ module _ (w : World) where
   -- ---- where the sweep stands
 
   -- the item at each place can be sought from each row
-  pub place-sought : {choices : List ℕ} → Small w choices → (x p : ℕ) → 1 ≤ x → x ≤ whole w → p ≤ swept w
+  pub place-sought : {choices : List ℕ} → Small w choices → (x p : ℕ) → 1 ≤ x → x ≤ highest w → p ≤ swept w
       → ((1 ≤ w .count) × (w .count ≤ mostOfEntry)) × (((1 ≤ x) × (x ≤ mostOfEntry)) × (p ≤ mostOfEntry * mostOfEntry))
   place-sought small x p some row inside =
       let nodes : w .count ≤ mostStates = small .few in
       let short = small .short in
-      let rows : w .count + suc (length (w .target)) ≤ mostStates + suc mostLetters = omega arith in
+      let rows : highest w ≤ mostStates + mostLetters = omega arith in
       ((small .some, omega arith), ((some, omega arith), omega (arith, mul-le-mul rows nodes)))
 
   pub marks-none : {k p : ℕ} {choices : List ℕ} → Marking w k p choices → MarksTo w k p choices choices
@@ -140,7 +140,7 @@ module _ (w : World) where
             | inr differ ↦ state-elsewhere a b other differ (marks .grows .each a b other) (marking .states a b other)
           ];
           item = marking .item;
-          root = mark-more (whole w) 0 (omega arith, marking .item) (marking .root);
+          root = mark-more (whole w) 0 (whole-item w (whole w) refl (marking .item)) (marking .root);
         }
 
     -- it stands at the place before p
@@ -186,7 +186,7 @@ module _ (w : World) where
 
     marks-from : (k : ℕ) → 1 ≤ k → weightIn w (whole w) 0 ≡ k → MarksTo w (k + 1) 0 before begun
     marks-from k some weighs =
-        let root : Item w (whole w) 0 = (omega arith, omega arith) in
+        let root = whole-item w (whole w) refl (omega arith) in
         let long = keeps-cleared .long in
         let asked : choiceAt (w .count) begun (whole w) 0 ≡ needed = choice-stored w cleared (whole w) 0 needed (omega arith) root in
         let marking : Marking w (k + 1) 0 begun =
@@ -200,12 +200,10 @@ module _ (w : World) where
         } in
         record { keeps = keeps-then w keeps-cleared (keeps-stored w cleared (whole w) 0 needed root); marking = marking }
 
-    -- with the first number and the number of cells as they are computed
-    pub marking-begins : {first after : List ℕ} (x k : ℕ) → x ≡ whole w → 1 ≤ k → weightIn w x 0 ≡ k → first ≡ overwritten (replicate (x * w .count) 0) before
+    -- with the first number as it is computed
+    pub marking-begins : {first after : List ℕ} (x k : ℕ) → x ≡ whole w → 1 ≤ k → weightIn w x 0 ≡ k → first ≡ cleared
         → after ≡ set first (place (w .count) (x - 1) 0) needed → MarksTo w (k + 1) 0 before after
     marking-begins {first} x k last some weighs clears asks =
-        let all : x * w .count ≡ cells w = whole-cells w x last in
-        let same : first ≡ cleared = clears ∙ ap (λ (m : ℕ). overwritten (replicate m 0) before) all in
         subst (MarksTo w (k + 1) 0 before)
-        (sym (asks ∙ ap₂ (λ (l : List ℕ) (m : ℕ). set l (place (w .count) (m - 1) 0) needed) same last))
+        (sym (asks ∙ ap₂ (λ (l : List ℕ) (m : ℕ). set l (place (w .count) (m - 1) 0) needed) clears last))
         (marks-from k some (subst (λ (m : ℕ). weightIn w m 0 ≡ k) last weighs))

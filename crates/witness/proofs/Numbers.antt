@@ -1,5 +1,5 @@
 -- The numbers of an item that weighs 1 or more.
---     item-low        no first number is greater than that of the target's last row
+--     item-low        its first number is no greater than the highest
 --     item-entries    both fit in entries
 --     item-place      it has a place in the table of choices, where it is no factor
 -- Assumes that the list and the target are small.
@@ -11,12 +11,11 @@ use lib.Arith.{digits-lt}
 use lib.ListN.{length}
 use Rattle.trees.specs.Tree.{mostOfEntry}
 use Rattle.tables.specs.Rules.{place}
-use Rattle.derivations.specs.Ways.{World, weightIn, whole}
+use Rattle.derivations.specs.Ways.{World, weightIn, highest}
 use Rattle.derivations.proofs.Ways.{factor-weight, item-inside}
 use Rattle.witness.specs.Choices.{Small, Item}
 
--- the last row of the target has the greatest first number
-pub item-low : (w : World) (x y : ℕ) → 1 ≤ weightIn w x y → x ≤ whole w
+pub item-low : (w : World) (x y : ℕ) → 1 ≤ weightIn w x y → x ≤ highest w
 item-low w zero y h = omega arith
 item-low w (suc p) y h = omega (arith, item-inside w p y h .1)
 
@@ -32,4 +31,4 @@ module _ {w : World} {choices : List ℕ} (small : Small w choices) where
   item-place (suc p) y h =
       let inside = item-inside w p y (h .1) in
       let less : suc p - 1 ≡ p = omega arith in
-      rw less (omega (arith, digits-lt {q = p} {m = w .count + suc (length (w .target))} {r = y} {c = w .count} (omega (arith, inside .1)) (inside .0), small .room))
+      rw less (omega (arith, digits-lt {q = p} {m = highest w} {r = y} {c = w .count} (inside .1) (inside .0), small .room))

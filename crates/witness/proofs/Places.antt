@@ -1,6 +1,7 @@
 -- Where the choices of items stand: each inside the table, and different items at different places.
 --     same-or-other, of-same           two items are compared
---     row-place, whole-cells, item-place    the choice of an item is one of the cells
+--     row-place, item-place                 the choice of an item is one of the cells
+--     whole-item                            the target's item is one where it weighs something
 --     item-weight, item-swept, lower-place, same-place, stands-row, stands-item    items by their places, which a sweep goes by
 --     choice-stored, choice-elsewhere  a choice that is set, and the others
 --     keeps-none, keeps-then, keeps-stored, small-kept    what remains while choices are set
@@ -19,7 +20,7 @@ use borrow.Author.Tests.{lt-ltb, le-ltb}
 use Rattle.trees.specs.Tree.{at, mostOfEntry}
 use Rattle.tables.specs.Rules.{place}
 use Rattle.tables.proofs.Places.{same-row, same-column, place-earlier}
-use Rattle.derivations.specs.Ways.{World, weightIn, whole}
+use Rattle.derivations.specs.Ways.{World, rowItem, weightIn, highest, whole}
 use Rattle.derivations.proofs.Ways.{item-inside}
 use Rattle.witness.specs.Choices.{choiceAt, cells, Item, Small}
 use Rattle.witness.specs.Marking.{Keeps}
@@ -42,22 +43,27 @@ pub of-same : (P : ℕ → ℕ → Type 0) (x y a b : ℕ) → Same x y a b → 
 of-same P x y a b same p = subst (λ (m : ℕ). P m b) (sym (same .0)) (subst (λ (m : ℕ). P x m) (sym (same .1)) p)
 
 module _ (w : World) where
-  -- the second number is a node, and the first not above that of the target's item
+  -- the second number is a node, and the first not above the highest
   pub item-column : (x y : ℕ) → Item w x y → y < w .count
   item-column zero y item = absurd (omega (arith, item .0))
   item-column (suc p) y item = item-inside w p y (item .1) .0
 
-  pub item-row : (x y : ℕ) → Item w x y → x ≤ whole w
+  pub item-row : (x y : ℕ) → Item w x y → x ≤ highest w
   item-row zero y item = omega arith
   item-row (suc p) y item = let h = item-inside w p y (item .1) .1 in omega arith
 
-  -- rows up to that of the target's item are inside
-  pub row-place : (x y : ℕ) → 1 ≤ x → x ≤ whole w → y < w .count → place (w .count) (x - 1) y < cells w
+  -- rows up to that number are inside
+  pub row-place : (x y : ℕ) → 1 ≤ x → x ≤ highest w → y < w .count → place (w .count) (x - 1) y < cells w
   row-place x y some row column =
-      let inside : x - 1 < w .count + suc (length (w .target)) = omega arith in digits-lt inside column
+      let inside : x - 1 < highest w = omega arith in digits-lt inside column
 
-  pub whole-cells : (x : ℕ) → x ≡ whole w → x * w .count ≡ cells w
-  whole-cells x last = ap (λ (m : ℕ). m * w .count) last ∙ omega arith
+  -- no row has the first number 0
+  row-some : (i : ℕ) → 1 ≤ rowItem (w .count) i
+  row-some zero = omega arith
+  row-some (suc i) = omega arith
+
+  pub whole-item : (x : ℕ) → x ≡ whole w → 1 ≤ weightIn w x 0 → Item w x 0
+  whole-item x last weighs = (rw last (row-some (length (w .target))), weighs)
 
   pub item-place : (x y : ℕ) → Item w x y → place (w .count) (x - 1) y < cells w
   item-place x y item = row-place x y (item .0) (item-row x y item) (item-column x y item)
@@ -95,11 +101,11 @@ module _ (w : World) where
       (omega arith, same-column (a - 1) (x - 1) (item-column a b other) (item-column x y item) same)
 
   -- the first number of what stands before the end of the cells
-  pub stands-row : (p x y : ℕ) → p < cells w → StandsAt (w .count) p x y → x ≤ whole w
+  pub stands-row : (p x y : ℕ) → p < cells w → StandsAt (w .count) p x y → x ≤ highest w
   stands-row p x y inside stands =
-      elim (decLt (whole w) x) [
+      elim (decLt (highest w) x) [
         | yes above ↦
-            let past : (w .count + suc (length (w .target))) * w .count ≤ (x - 1) * w .count = mul-le-mul-right (w .count) (omega arith) in
+            let past : highest w * w .count ≤ (x - 1) * w .count = mul-le-mul-right (w .count) (omega arith) in
             absurd (omega (arith, stands .is))
         | no within ↦ omega arith
       ]
@@ -117,7 +123,7 @@ module _ (w : World) where
         le-ltb mostOfEntry (w .count) (omega arith),
         le-ltb mostOfEntry (length (w .target)) (omega arith),
         lt-ltb y (w .count) (stands .column),
-        le-ltb (w .count + length (w .target)) q (omega arith),
+        lt-ltb q (w .count + length (w .target)) (omega arith),
       )
       (row-behind q y ∙ ap (at (w .counts)) (stands .is) ∙ is) in
       ((omega arith, omega arith), weighs)

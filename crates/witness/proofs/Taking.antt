@@ -8,14 +8,14 @@
 use mathlib.Core.Path.{_≡_, sym, ap, subst, _∙_}
 use mathlib.Core.Logic.{inl, inr}
 use mathlib.Core.List.{List, _∷_, _++_}
-use Prim.Native.Nat.{ℕ, _+_, _-_, _*_, _≤_, _<_}
+use Prim.Native.Nat.{ℕ, suc, _+_, _-_, _*_, _≤_, _<_}
 use native.Mathlib.Omega.{arith}
 use lib.ListN.{length}
 use Rattle.limits.specs.Limits.{mostFactors}
 use Rattle.trees.specs.Tree.{at}
 use Rattle.tables.specs.Rules.{place}
 use Rattle.derivations.specs.Derivations.{Tight, Joins}
-use Rattle.derivations.specs.Ways.{World, partsIn, weightIn, whole}
+use Rattle.derivations.specs.Ways.{World, partsIn, weightIn, highest}
 use Rattle.derivations.specs.declared.Parts.{Parts}
 use Rattle.derivations.specs.declared.Parts.the-variants.{One, Two, Nothing}
 use Rattle.derivations.proofs.Series.{firsts-unique}
@@ -37,14 +37,14 @@ module _ (w : World) (x y : ℕ) where
     parts-fall : (ps : Parts) → 1 ≤ x → Tight-here ps → stepsLeft w (itemsOf ps ++ is) < stepsLeft w ((x, y) ∷ is)
     parts-fall (One a b) h t = one-falls (weightIn w a b) (weightIn w x y) (t .2) (t .0)
       where
-        one-falls : (k l : ℕ) → k ≡ l → a < x → steps (2 * whole w) k a + stepsLeft w is < steps (2 * whole w) l x + stepsLeft w is
-        one-falls k l e h = rw (← e) (omega (arith, steps-one (2 * whole w) k x a h))
+        one-falls : (k l : ℕ) → k ≡ l → a < x → steps (2 * suc (highest w)) k a + stepsLeft w is < steps (2 * suc (highest w)) l x + stepsLeft w is
+        one-falls k l e h = rw (← e) (omega (arith, steps-one (2 * suc (highest w)) k x a h))
     parts-fall (Two a b c d) h t =
         two-fall (weightIn w a b) (weightIn w c d) (weightIn w x y) (t .2)
-        (steps-wide (whole w) (weightIn w a b) (weightIn w c d) x a c (t .0) (t .1) h (item-low w a b (t .0)) (item-low w c d (t .1)))
+        (steps-wide (suc (highest w)) (weightIn w a b) (weightIn w c d) x a c (t .0) (t .1) h (omega (arith, item-low w a b (t .0))) (omega (arith, item-low w c d (t .1))))
       where
-        two-fall : (k l m : ℕ) → k + l ≡ m → steps (2 * whole w) k a + steps (2 * whole w) l c < steps (2 * whole w) (k + l) x
-            → steps (2 * whole w) k a + (steps (2 * whole w) l c + stepsLeft w is) < steps (2 * whole w) m x + stepsLeft w is
+        two-fall : (k l m : ℕ) → k + l ≡ m → steps (2 * suc (highest w)) k a + steps (2 * suc (highest w)) l c < steps (2 * suc (highest w)) (k + l) x
+            → steps (2 * suc (highest w)) k a + (steps (2 * suc (highest w)) l c + stepsLeft w is) < steps (2 * suc (highest w)) m x + stepsLeft w is
         two-fall k l m e f = rw (← e) (omega (arith, f))
     parts-fall Nothing h t = absurd t
 

@@ -4,13 +4,13 @@ use mathlib.Core.Bool.{Bool, true, false}
 use mathlib.Core.Logic.{_⊎_}
 use mathlib.Core.Path.{_≡_}
 use mathlib.Core.List.{List}
-use Prim.Native.Nat.{ℕ, suc, _+_, _-_, _*_, _≤_, _<_}
+use Prim.Native.Nat.{ℕ, suc, _-_, _*_, _≤_, _<_}
 use lib.ListN.{length, set}
 use Rattle.limits.specs.Limits.{mostLetters, mostStates}
 use Rattle.trees.specs.Tree.{at}
 use Rattle.tables.specs.Rules.{place}
 use Rattle.derivations.specs.Derivations.{Tight, Candidate, Firsts, Joins}
-use Rattle.derivations.specs.Ways.{World, partsIn, weightIn}
+use Rattle.derivations.specs.Ways.{World, partsIn, weightIn, highest}
 use Rattle.derivations.specs.declared.Parts.{Parts}
 use Rattle.derivations.specs.declared.Parts.the-variants.{One, Two, Nothing}
 
@@ -30,7 +30,7 @@ Coded c = (1 ≤ c) × (c < marked)
 
 -- how many entries the counts and the choices have
 abbrev pub cells : World → ℕ
-cells w = (w .count + suc (length (w .target))) * w .count
+cells w = highest w * w .count
 
 -- an item that is no factor
 abbrev pub Item : World → ℕ → ℕ → Type 0

@@ -1,5 +1,5 @@
 -- What is asked of the sizes of the inputs. Assumes nothing: these are definitions.
-use Prim.Native.Nat.{ℕ, suc, _+_, _*_, _≤_}
+use Prim.Native.Nat.{ℕ, _+_, _*_, _≤_}
 use Rattle.limits.specs.Limits.{mostFactors, mostLetters, mostStates}
 
 pub record Room (letters count generators n choices witness : ℕ) : Type 0 where
@@ -9,4 +9,4 @@ pub record Room (letters count generators n choices witness : ℕ) : Type 0 wher
   pub numbers : generators ≤ 256
   pub bound : n ≤ mostFactors
   pub factors : n ≤ witness
-  pub room : (count + suc letters) * count ≤ choices
+  pub room : (count + letters) * count ≤ choices

@@ -6,7 +6,7 @@ use lib.ListN.{length}
 use Rattle.limits.specs.Limits.{mostFactors}
 use Rattle.trees.specs.Tree.{at, mostOfEntry}
 use Rattle.derivations.specs.Derivations.{Firsts}
-use Rattle.derivations.specs.Ways.{World, partsIn, weightIn, whole}
+use Rattle.derivations.specs.Ways.{World, partsIn, weightIn, highest}
 use Rattle.derivations.proofs.Steps.{steps}
 use Rattle.derivations.specs.declared.Parts.{Parts}
 use Rattle.derivations.specs.declared.Parts.the-variants.{One, Two, Nothing}
@@ -35,7 +35,7 @@ module _ (w : World) where
 
   abbrev pub stepsLeft : List (ℕ × ℕ) → ℕ
   stepsLeft [] = 0
-  stepsLeft (i ∷ is) = steps (2 * whole w) (weightIn w (i .0) (i .1)) (i .0) + stepsLeft is
+  stepsLeft (i ∷ is) = steps (2 * suc (highest w)) (weightIn w (i .0) (i .1)) (i .0) + stepsLeft is
 
   -- the first series of items, one behind the other
   pub data Spelled : List (ℕ × ℕ) → List ℕ → Type 0 where

@@ -16,9 +16,10 @@ use words::Factors;
 ghost use mathlib.Core.Path.{_≡_};
 ghost use Prim.Native.Nat.{_≤_};
 ghost use lib.ListN.{length, replicate};
+ghost use Rattle.limits.specs.Limits.{mostLetters, mostStates};
 ghost use Rattle.refusals.specs.Telling.{Tells};
 ghost use Rattle.slices.specs.Slices.{overwritten};
-ghost use Rattle.derivations.specs.Ways.{world, weightIn, whole};
+ghost use Rattle.derivations.specs.Ways.{world, rowItem, weightIn, whole as wholeOf};
 ghost use Rattle.witness.specs.Choices.{Small};
 ghost use Rattle.witness.specs.Sweeping.{MarksTo};
 ghost use Rattle.witness.specs.Witness.{Fits, Writes};
@@ -61,7 +62,7 @@ fn has_room(
     if witness < n.0 as usize {
         return false;
     }
-    if choices < (count + letters + 1) * count {
+    if choices < (count + letters) * count {
         return false;
     }
     true
@@ -76,6 +77,17 @@ fn clear(choices: &mut [u16], many: usize)
         choices[i] = 0;
         i += 1;
     }
+}
+
+// The first number of the target's item: its last row, or where it has no letter the pairs of node 0.
+fn whole(count: usize, letters: usize) -> usize
+    requires { ⌜ (count ≤ mostStates) × (letters ≤ mostLetters) ⌝ }
+    ensures { λ r. ⌜ r ≡ rowItem count letters ⌝ }
+{
+    if letters == 0 {
+        return 1;
+    }
+    count + letters
 }
 
 // Marks everything that the item (x, 0) of weight k needs.
@@ -93,12 +105,12 @@ fn mark_from(
     k: Factors,
 )
     requires { ⌜ Small (world count (now letters) (now rests) (now «children_r») (now «children_s») (now wholes) (now target) (now counts)) (now choices) ⌝ }
-    requires { ⌜ x ≡ whole (world count (now letters) (now rests) (now «children_r») (now «children_s») (now wholes) (now target) (now counts)) ⌝ }
+    requires { ⌜ x ≡ wholeOf (world count (now letters) (now rests) (now «children_r») (now «children_s») (now wholes) (now target) (now counts)) ⌝ }
     requires { ⌜ (1 ≤ k .0) × (weightIn (world count (now letters) (now rests) (now «children_r») (now «children_s») (now wholes) (now target) (now counts)) x 0 ≡ k .0) ⌝ }
     ensures { λ _. ⌜ MarksTo (world count (now (letters .entry)) (now (rests .entry)) (now («children_r» .entry)) (now («children_s» .entry)) (now (wholes .entry))
         (now (target .entry)) (now (counts .entry))) 1 0 (now (choices .entry)) (now (choices .exit)) ⌝ }
 {
-    clear(choices, x * count);
+    clear(choices, (count + target.len()) * count);
     set_choice(count, choices, x, 0, NEEDED);
     sweeping::mark_all(
         target,
@@ -130,7 +142,7 @@ fn write(
     k: Factors,
 ) -> Written
     requires { ⌜ Fits (world count (now letters) (now rests) (now «children_r») (now «children_s») (now wholes) (now target) (now counts)) (k .0) (now choices) (now witness) ⌝ }
-    requires { ⌜ x ≡ whole (world count (now letters) (now rests) (now «children_r») (now «children_s») (now wholes) (now target) (now counts)) ⌝ }
+    requires { ⌜ x ≡ wholeOf (world count (now letters) (now rests) (now «children_r») (now «children_s») (now wholes) (now target) (now counts)) ⌝ }
     requires { ⌜ (1 ≤ k .0) × (weightIn (world count (now letters) (now rests) (now «children_r») (now «children_s») (now wholes) (now target) (now counts)) x 0 ≡ k .0) ⌝ }
     ensures { λ r. ⌜ Writes (world count (now (letters .entry)) (now (rests .entry)) (now («children_r» .entry)) (now («children_s» .entry)) (now (wholes .entry))
         (now (target .entry)) (now (counts .entry))) (k .0) r
@@ -217,7 +229,7 @@ pub fn first_series(
         choices.len(),
         witness.len(),
     ) {
-        let x = count + target.len() + 1;
+        let x = whole(count, target.len());
         let k = items::weight(count, wholes.len(), target.len(), counts, x, 0);
         if k == 0 {
             return Written::Unfit;

@@ -12,19 +12,19 @@ use crate::due::item_at;
 use crate::marking::mark;
 use words::Factors;
 ghost use mathlib.Core.Path.{_≡_};
-ghost use Prim.Native.Nat.{suc, _+_, _*_, _≤_, _<_, min};
+ghost use Prim.Native.Nat.{_+_, _*_, _≤_, _<_, min};
 ghost use lib.ListN.{length};
 ghost use Rattle.limits.specs.Limits.{mostFactors, mostLetters, mostStates};
-ghost use Rattle.derivations.specs.Ways.{world, whole};
+ghost use Rattle.derivations.specs.Ways.{world, highest};
 ghost use Rattle.witness.specs.Choices.{Small};
 ghost use Rattle.witness.specs.Sweeping.{swept as sweptOf, Marking, Choosing, MarksTo, ChoosesTo};
 
 // Every item stands before this place, which the counts and the choices reach.
 fn swept(count: usize, letters: usize, counts: usize) -> usize
     requires { ⌜ (count ≤ mostStates) × (letters ≤ mostLetters) ⌝ }
-    ensures { λ r. ⌜ r ≡ min ((count + suc letters) * count) counts ⌝ }
+    ensures { λ r. ⌜ r ≡ min ((count + letters) * count) counts ⌝ }
 {
-    let cells = (count + letters + 1) * count;
+    let cells = (count + letters) * count;
     if counts < cells {
         return counts;
     }
@@ -48,7 +48,7 @@ fn mark_block(
     end: usize,
 )
     requires { ⌜ Small (world count (now letters) (now rests) (now «children_r») (now «children_s») (now wholes) (now target) (now counts)) (now choices) ⌝ }
-    requires { ⌜ (1 ≤ near) × (near ≤ whole (world count (now letters) (now rests) (now «children_r») (now «children_s») (now wholes) (now target) (now counts))) ⌝ }
+    requires { ⌜ (1 ≤ near) × (near ≤ highest (world count (now letters) (now rests) (now «children_r») (now «children_s») (now wholes) (now target) (now counts))) ⌝ }
     requires { ⌜ (from ≤ end) × (end ≤ sweptOf (world count (now letters) (now rests) (now «children_r») (now «children_s») (now wholes) (now target) (now counts))) ⌝ }
     requires { ⌜ 1 ≤ k .0 ⌝ }
     requires { ⌜ Marking (world count (now letters) (now rests) (now «children_r») (now «children_s») (now wholes) (now target) (now counts)) (k .0) end (now choices) ⌝ }
@@ -98,7 +98,7 @@ fn mark_weight(
     ensures { λ _. ⌜ MarksTo (world count (now (letters .entry)) (now (rests .entry)) (now («children_r» .entry)) (now («children_s» .entry)) (now (wholes .entry))
         (now (target .entry)) (now (counts .entry))) (k .0) 0 (now (choices .entry)) (now (choices .exit)) ⌝ }
 {
-    let mut x = count + target.len() + 1;
+    let mut x = count + target.len();
     let mut end = swept(count, target.len(), counts.len());
     while 0 < end {
         let from = block_before(end);
@@ -182,7 +182,7 @@ fn choose_block(
     end: usize,
 ) -> bool
     requires { ⌜ Small (world count (now letters) (now rests) (now «children_r») (now «children_s») (now wholes) (now target) (now counts)) (now choices) ⌝ }
-    requires { ⌜ (1 ≤ near) × (near ≤ whole (world count (now letters) (now rests) (now «children_r») (now «children_s») (now wholes) (now target) (now counts))) ⌝ }
+    requires { ⌜ (1 ≤ near) × (near ≤ highest (world count (now letters) (now rests) (now «children_r») (now «children_s») (now wholes) (now target) (now counts))) ⌝ }
     requires { ⌜ (from ≤ end) × (end ≤ sweptOf (world count (now letters) (now rests) (now «children_r») (now «children_s») (now wholes) (now target) (now counts))) ⌝ }
     requires { ⌜ (1 ≤ k .0) × (k .0 ≤ mostFactors) ⌝ }
     requires { ⌜ (mostFactors ≤ length (now xs)) × (mostFactors ≤ length (now ys)) × (mostFactors ≤ length (now us)) × (mostFactors ≤ length (now vs)) ⌝ }

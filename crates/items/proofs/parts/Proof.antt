@@ -30,20 +30,20 @@ returns-2 c =
     let a = begun e .args in
     c .of-pair .ensures ∙ parts-pair (told-by (begun e)) (a .x) (a .y) (a .d) (e .if1 .left) (c .before .if2 .taken)
 
-sub-of-row : tie.Need-sub-of-row
-sub-of-row c = search needs
+sub-next-row : tie.Need-sub-next-row
+sub-next-row c = search needs
 
-sub-of-row-2 : tie.Need-sub-of-row-2
-sub-of-row-2 c = search needs
+sub-next-row-2 : tie.Need-sub-next-row-2
+sub-next-row-2 c = search needs
 
-of-row-requires : tie.Need-of-row-requires
-of-row-requires c κs = search needs
+next-row-requires : tie.Need-next-row-requires
+next-row-requires c κs = search needs
 
 returns-3 : tie.Need-returns-3
 returns-3 c =
     let e = c .before .before in
     let a = begun e .args in
-    c .of-row .ensures ∙ parts-row (told-by (begun e)) (a .x) (a .y) (a .d) (e .if1 .left) (c .before .if2 .left)
+    c .next-row .ensures ∙ parts-row (told-by (begun e)) (a .x) (a .y) (a .d) (e .if1 .left) (c .before .if2 .left)
 
 pub parts-spec : {M : Type 1} → statement M
 parts-spec =
@@ -53,7 +53,7 @@ parts-spec =
     sub-if2
     of-pair-requires
     returns-2
-    sub-of-row
-    sub-of-row-2
-    of-row-requires
+    sub-next-row
+    sub-next-row-2
+    next-row-requires
     returns-3)

@@ -1,13 +1,14 @@
 -- What stands at the end of the last row decides; the rows are carried behind the pairs, and what is written is the answer. Assumes nothing.
-use mathlib.Core.Path.{sym}
+use mathlib.Core.Path.{_≡_}
 use Prim.Native.Nat.{suc, _+_, _*_, _≤_}
 use native.Mathlib.Omega.{arith}
 use lib.ListN.{length}
-use lib.Seq.{length-take-le}
+use Rattle.tables.proofs.Parts.{part-length}
 use Rattle.search.specs.Search.{used}
 use borrow.Author.Needs.{needs}
 use Rattle.search.proofs.Laid.{laid-carried, carried-kept}
 use Rattle.search.proofs.Deciding.{none-answered, written-answered}
+use Rattle.search.proofs.Tabulating.{rows-used}
 use Rattle.search.proofs.answer.Statement.{statement}
 use Rattle.search.proofs.answer.Tie as tie
 
@@ -16,7 +17,7 @@ abbrev begun : tie.After-entry → tie.Start
 begun c = c .before .before .before .before .before .before .before .before .before .before .before .before
 
 abbrev read : tie.After-carry → tie.After-entry
-read c = c .before .before .before .before
+read c = c .before .before .before .before .before
 
 abbrev carried : tie.After-first-series → tie.After-carry
 carried c = c .before .before .before .before .before .before
@@ -39,27 +40,36 @@ same-length c = search needs
 returns : tie.Need-returns
 returns c = none-answered (begun (c .before) .pre) (omega (arith, c .before .entry .ensures .0))
 
-add-carry : tie.Need-add-carry
-add-carry c = search needs
+add-end : tie.Need-add-end
+add-end c = search needs
+
+mul-end : tie.Need-mul-end
+mul-end c = search needs
 
 mul-carry : tie.Need-mul-carry
 mul-carry c = search needs
 
-slice-reshare-prefix-carry : tie.Need-slice-reshare-prefix-carry
-slice-reshare-prefix-carry c = search needs
+sub-carry : tie.Need-sub-carry
+sub-carry c = search needs
 
-slice-aggregate-carry : tie.Need-slice-aggregate-carry
-slice-aggregate-carry c = sym (length-take-le _ _ (omega arith))
+part-carry-start : tie.Need-part-carry-start
+part-carry-start c = search needs
+
+part-carry-end : tie.Need-part-carry-end
+part-carry-end c =
+    let start = begun (c .before .before) in
+    omega (arith, rows-used (start .args .count) (length (start .args .target .now)), start .pre .room .second)
 
 mul-carry-2 : tie.Need-mul-carry-2
 mul-carry-2 c = search needs
 
 carry-requires : tie.Need-carry-requires
 carry-requires c κs =
-    let a = begun (c .before .before .before) .args in
-    let room = begun (c .before .before .before) .pre .room in
-    let there : (length (a .target .now) + 1) * a .count ≤ length (a .second .now) = omega (arith, room .second) in
-    omega (arith, room .first, length-take-le ((length (a .target .now) + 1) * a .count) (a .second .now) there)
+    let a = begun (c .before .before .before .before) .args in
+    let t = length (a .target .now) in
+    let room = begun (c .before .before .before .before) .pre .room in
+    let there : (t + 1) * a .count ≤ length (a .second .now) = omega (arith, rows-used (a .count) t, room .second) in
+    omega (arith, room .first, part-length (a .second .now) (a .count) ((t + 1) * a .count) there)
 
 first-series-requires : tie.Need-first-series-requires
 first-series-requires c κs = search needs
@@ -84,14 +94,14 @@ returns-2 c =
     let a = begun (read rows) .args in
     let t = length (a .target .now) in
     let room = tabulated .room in
-    let enough : suc t * a .count ≤ (t + 1) * a .count = omega arith in
-    let there : (t + 1) * a .count ≤ length (a .second .now) = omega (arith, room .second) in
-    let behind : a .count * a .count + (t + 1) * a .count ≤ length (a .first .now) = omega (arith, room .first) in
+    let all : (t + 1) * a .count ≡ suc t * a .count = omega arith in
+    let there : (t + 1) * a .count ≤ length (a .second .now) = omega (arith, rows-used (a .count) t, room .second) in
+    let behind : a .count * a .count + t * a .count ≤ length (a .first .now) = omega (arith, room .first) in
     rw (c .of-written .ensures)
-    (written-answered tabulated _ (laid-carried (a .count) t (a .first .now) (a .second .now) ((t + 1) * a .count) enough there behind (rows .carry .ensures))
+    (written-answered tabulated _ (laid-carried (a .count) t (a .first .now) (a .second .now) ((t + 1) * a .count) all there behind (rows .carry .ensures))
     (written .first-series .result)
     (omega (arith, read rows .entry .ensures .0))
-    (carried-kept (a .count) t (a .first .now) (a .second .now) ((t + 1) * a .count) enough there behind (rows .carry .ensures) (used (a .count) t) (omega arith))
+    (carried-kept (a .count) t (a .first .now) (a .second .now) ((t + 1) * a .count) all there behind (rows .carry .ensures) (used (a .count) t) (omega arith))
     (written .first-series .ensures))
 
 pub answer-spec : {M : Type 1} → statement M
@@ -104,10 +114,12 @@ answer-spec =
     entry-requires
     same-length
     returns
-    add-carry
+    add-end
+    mul-end
     mul-carry
-    slice-reshare-prefix-carry
-    slice-aggregate-carry
+    sub-carry
+    part-carry-start
+    part-carry-end
     mul-carry-2
     carry-requires
     first-series-requires

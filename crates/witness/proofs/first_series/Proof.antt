@@ -1,7 +1,6 @@
 -- There is room, and the target's item weighs enough and not too much; else there is no series. Assumes nothing.
 use mathlib.Core.Path.{_≡_, sym, subst}
-use Prim.Native.Nat.{ℕ, _+_}
-use lib.ListN.{length}
+use Prim.Native.Nat.{ℕ}
 use Rattle.refusals.proofs.Telling.{told, told-not}
 use Rattle.derivations.specs.Ways.{World, world, weightIn, whole}
 use Rattle.witness.specs.Witness.{Fits}
@@ -16,7 +15,7 @@ abbrev begun : tie.After-has-room → tie.Start
 begun c = c .before .before .before .before .before .before .before .before .before .before
 
 abbrev roomy : tie.After-weight → tie.After-has-room
-roomy c = c .before .before
+roomy c = c .before .before .before
 
 abbrev inWorld : tie.Start → World
 inWorld c =
@@ -27,23 +26,18 @@ abbrev HasRoom : tie.Start → Type 0
 HasRoom c = Fits (inWorld c) (c .args .n .0) (c .args .choices .now) (c .args .witness .now)
 
 fits : (c : tie.After-weight) → HasRoom (begun (roomy c))
-fits c = room-fits (inWorld (begun (roomy c))) (told (roomy c .has-room .result) (c .before .if1 .taken) (roomy c .has-room .ensures))
+fits c = room-fits (inWorld (begun (roomy c))) (told (roomy c .has-room .result) (c .before .before .if1 .taken) (roomy c .has-room .ensures))
 
 -- what was weighed is the target's item
 weighs : (c : tie.After-weight) → weightIn (inWorld (begun (roomy c))) (whole (inWorld (begun (roomy c)))) 0 ≡ c .weight .result
 weighs c =
-    let w = inWorld (begun (roomy c)) in
-    let last : w .count + length (w .target) + 1 ≡ whole w = omega arith in
-    subst (λ (m : ℕ). weightIn w m 0 ≡ c .weight .result) last (sym (c .weight .ensures .0))
+    subst (λ (m : ℕ). weightIn (inWorld (begun (roomy c))) m 0 ≡ c .weight .result) (c .before .whole .ensures) (sym (c .weight .ensures .0))
 
 has-room-requires : tie.Need-has-room-requires
 has-room-requires c κs = search needs
 
-add-x : tie.Need-add-x
-add-x c = let r = told (c .before .has-room .result) (c .if1 .taken) (c .before .has-room .ensures) in omega (arith, r .few, r .short)
-
-add-x-2 : tie.Need-add-x-2
-add-x-2 c = let r = told (c .before .has-room .result) (c .if1 .taken) (c .before .has-room .ensures) in omega (arith, r .few, r .short)
+whole-requires : tie.Need-whole-requires
+whole-requires c κs = let r = told (c .before .has-room .result) (c .if1 .taken) (c .before .has-room .ensures) in (r .few, r .short)
 
 weight-requires : tie.Need-weight-requires
 weight-requires c κs = search needs
@@ -65,7 +59,7 @@ write-requires c κs =
     let start = begun (roomy at-weight) in
     let k = at-weight .weight .result in (
       fits-less (inWorld start) k (start .args .n .0) (omega (arith, c .before .before .if3 .taken)) (fits at-weight) (weighs at-weight),
-      (omega arith, (omega (arith, c .before .before .before .before .if2 .left), sym (at-weight .weight .ensures .0))),
+      (at-weight .before .whole .ensures, (omega (arith, c .before .before .before .before .if2 .left), sym (at-weight .weight .ensures .0))),
     )
 
 same-length : tie.Need-same-length
@@ -99,8 +93,7 @@ first-series-spec =
     tie.close
     (tie.spec
     has-room-requires
-    add-x
-    add-x-2
+    whole-requires
     weight-requires
     returns
     cast-if3

@@ -34,14 +34,11 @@ returns-6 c = λ room. omega arith
 add-if7 : tie.Need-add-if7
 add-if7 c = search needs
 
-add-if7-2 : tie.Need-add-if7-2
-add-if7-2 c = search needs
-
 mul-if7 : tie.Need-mul-if7
 mul-if7 c =
     let a = c .before .before .before .before .before .before .before .before .args in
     let nodes : a .count ≤ mostStates = omega arith in
-    let rows : a .count + a .letters + 1 ≤ mostStates + mostLetters + 1 = omega arith in
+    let rows : a .count + a .letters ≤ mostStates + mostLetters = omega arith in
     omega (arith, mul-le-mul rows nodes)
 
 returns-7 : tie.Need-returns-7
@@ -72,7 +69,6 @@ has-room-spec =
     cast-if6
     returns-6
     add-if7
-    add-if7-2
     mul-if7
     returns-7
     returns-8)

@@ -2,10 +2,11 @@
 use mathlib.Core.Path.{_∙_}
 use Prim.Native.Nat.{_+_, _≤_}
 use native.Mathlib.Nat.{mul-le-mul}
+use lib.ListN.{length}
 use Rattle.limits.specs.Limits.{mostLetters, mostStates}
 use Rattle.derivations.specs.Ways.{World, world}
 use Rattle.witness.specs.Sweeping.{MarksTo}
-use Rattle.witness.proofs.Places.{row-place, whole-cells, small-kept}
+use Rattle.witness.proofs.Places.{item-place, whole-item, small-kept}
 use Rattle.witness.proofs.MarkSweeps.{marks-then, marking-begins}
 use native.Mathlib.Omega.{arith}
 use Rattle.witness.proofs.mark_from.Statement.{statement}
@@ -33,26 +34,31 @@ first c =
     marking-begins (inWorld start) (a .choices .now) (p .0 .room) (a .x) (a .k .0) (p .1 .0) (p .1 .1 .0) (p .1 .1 .1) (asked c .clear .ensures)
     (c .set-choice .ensures)
 
+add-clear : tie.Need-add-clear
+add-clear c =
+    let p = c .before .before .before .before .before .before .before .before .before .pre in
+    omega (arith, p .0 .few, p .0 .short)
+
 mul-clear : tie.Need-mul-clear
 mul-clear c =
     let start = c .before .before .before .before .before .before .before .before .before in
     let p = start .pre in
     let nodes : start .args .count ≤ mostStates = p .0 .few in
-    let rows : start .args .x ≤ mostStates + mostLetters + 1 = omega (arith, p .0 .few, p .0 .short, p .1 .0) in
+    let rows : start .args .count + length (start .args .target .now) ≤ mostStates + mostLetters = omega (arith, p .0 .few, p .0 .short) in
     omega (arith, mul-le-mul rows nodes)
 
 clear-requires : tie.Need-clear-requires
 clear-requires c κs =
     let start = c .before .before .before .before .before .before .before .before .before in
-    let p = start .pre in omega (arith, whole-cells (inWorld start) (start .args .x) (p .1 .0), p .0 .room)
+    let p = start .pre in omega (arith, p .0 .room)
 
 set-choice-requires : tie.Need-set-choice-requires
 set-choice-requires c κs =
     let at-clear = c .before .before .before in
     let start = begun at-clear in
     let p = start .pre in
-    let some : 1 ≤ start .args .x = omega (arith, p .1 .0) in
-    (some, omega (arith, row-place (inWorld start) (start .args .x) 0 some (omega (arith, p .1 .0)) (p .0 .some), p .0 .room, at-clear .clear .kept .0))
+    let root = whole-item (inWorld start) (start .args .x) (p .1 .0) (omega (arith, p .1 .1)) in
+    (root .0, omega (arith, item-place (inWorld start) (start .args .x) 0 root, p .0 .room, at-clear .clear .kept .0))
 
 mark-all-requires : tie.Need-mark-all-requires
 mark-all-requires c κs =
@@ -70,4 +76,4 @@ returns c =
     marks-then (inWorld (begun (asked at-set))) (first at-set) (at-all .mark-all .ensures)
 
 pub mark-from-spec : {M : Type 1} → statement M
-mark-from-spec = tie.close (tie.spec mul-clear clear-requires set-choice-requires mark-all-requires same-length returns)
+mark-from-spec = tie.close (tie.spec add-clear mul-clear clear-requires set-choice-requires mark-all-requires same-length returns)

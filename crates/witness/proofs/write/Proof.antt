@@ -5,7 +5,7 @@ use Prim.Native.Nat.{ℕ, _+_}
 use Rattle.derivations.specs.Ways.{World, world, weightIn}
 use Rattle.witness.specs.Choices.{choiceAt, Coded}
 use Rattle.witness.specs.Sweeping.{ChoosesTo}
-use Rattle.witness.proofs.Places.{small-kept}
+use Rattle.witness.proofs.Places.{whole-item, small-kept}
 use Rattle.witness.proofs.ItemChoices.{choosing-settled}
 use Rattle.witness.proofs.ChoiceSweeps.{choosing-begins, choosing-ends, chooses-then, chooses-stops}
 use Rattle.witness.proofs.Results.{writes-series, writes-stuck}
@@ -87,7 +87,7 @@ spell-requires c κs =
       (
         (omega (arith, at-all .choose-all .kept .1 .1 .1 .1 .1 .1 .1 .1 .1 .0), omega (arith, at-all .choose-all .kept .1 .1 .1 .1 .1 .1 .1 .1 .1 .1 .0)),
         (
-          (omega (arith, last), omega (arith, weighs, p .1 .1 .0)),
+          whole-item w (a .x) last (omega (arith, weighs, p .1 .1 .0)),
           (coded, (omega (arith, weighs, p .0 .bound), (omega (arith, weighs, p .0 .room), choosing-settled w (all .choosing)))),
         ),
       ),

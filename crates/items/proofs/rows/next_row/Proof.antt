@@ -6,12 +6,11 @@ use borrow.Author.Needs.{needs}
 use Rattle.items.proofs.rows.next_row.Statement.{statement}
 use Rattle.items.proofs.rows.next_row.Tie as tie
 
--- the first state, from the one in which the child of q is read
-abbrev begun : tie.After-child-by → tie.Start
-begun r = r .before .before .before .before .before
-
 letter-of-requires : tie.Need-letter-of-requires
 letter-of-requires c κs = search needs
+
+row-item-requires : tie.Need-row-item-requires
+row-item-requires c κs = search needs
 
 child-by-requires : tie.Need-child-by-requires
 child-by-requires c κs = search needs
@@ -22,12 +21,13 @@ only-one-requires c κs = search needs
 returns : tie.Need-returns
 returns c =
     let r = c .before .before in
-    rw (← r .before .letter-of .ensures, ← r .child-by .ensures .0, ne-eqb _ _ (c .before .if1 .taken), ← add-one, ← begun r .pre) (c .only-one .ensures)
+    rw (← r .before .before .letter-of .ensures, ← r .child-by .ensures .0, ne-eqb _ _ (c .before .if1 .taken), ← r .before .row-item .ensures)
+    (c .only-one .ensures)
 
 returns-2 : tie.Need-returns-2
 returns-2 c =
     let r = c .before .before in
-    rw (← r .before .letter-of .ensures, ← r .child-by .ensures .0, eq-eqb _ _ (c .before .if1 .left), le-ltb _ _ (c .if2 .taken)) refl
+    rw (← r .before .before .letter-of .ensures, ← r .child-by .ensures .0, eq-eqb _ _ (c .before .if1 .left), le-ltb _ _ (c .if2 .taken)) refl
 
 child-by-requires-2 : tie.Need-child-by-requires-2
 child-by-requires-2 c κs = search needs
@@ -36,7 +36,7 @@ returns-3 : tie.Need-returns-3
 returns-3 c =
     let r = c .before .before .before .before in
     rw (
-      ← r .before .letter-of .ensures,
+      ← r .before .before .letter-of .ensures,
       ← r .child-by .ensures .0,
       eq-eqb _ _ (c .before .before .before .if1 .left),
       lt-ltb _ _ (c .before .before .if2 .left),
@@ -44,21 +44,20 @@ returns-3 c =
       eq-eqb _ _ (c .if3 .taken),
     ) refl
 
-add-t13 : tie.Need-add-t13
-add-t13 c = search needs
+add-t14 : tie.Need-add-t14
+add-t14 c = search needs
 
 returns-4 : tie.Need-returns-4
 returns-4 c =
     let r = c .before .before .before .before in
     rw (
-      ← r .before .letter-of .ensures,
+      ← r .before .before .letter-of .ensures,
       ← r .child-by .ensures .0,
       eq-eqb _ _ (c .before .before .before .if1 .left),
       lt-ltb _ _ (c .before .before .if2 .left),
       ← c .before .child-by2 .ensures .0,
       ne-eqb _ _ (c .if3 .left),
-      begun r .pre,
-      add-one,
+      ← r .before .row-item .ensures,
       add-one,
     ) refl
 
@@ -67,11 +66,12 @@ next-row-spec =
     tie.close
     (tie.spec
     letter-of-requires
+    row-item-requires
     child-by-requires
     only-one-requires
     returns
     returns-2
     child-by-requires-2
     returns-3
-    add-t13
+    add-t14
     returns-4)

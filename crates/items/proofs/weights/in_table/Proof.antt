@@ -30,7 +30,7 @@ add-if4 c = search needs
 returns-4 : tie.Need-returns-4
 returns-4 c =
     let e = c .before .before in
-    (rw (le-ltb _ _ (e .before .if1 .left), le-ltb _ _ (e .if2 .left), lt-ltb _ _ (c .before .if3 .left), lt-ltb _ _ (c .if4 .taken)) refl, omega arith)
+    (rw (le-ltb _ _ (e .before .if1 .left), le-ltb _ _ (e .if2 .left), lt-ltb _ _ (c .before .if3 .left), le-ltb _ _ (c .if4 .taken)) refl, omega arith)
 
 mul-entry : tie.Need-mul-entry
 mul-entry c = record { fits = omega (arith, small c) }
@@ -45,7 +45,7 @@ returns-5 : tie.Need-returns-5
 returns-5 c =
     let e = few (c .before) in
     let r = c .entry .ensures in
-    (rw (le-ltb _ _ (e .before .if1 .left), le-ltb _ _ (e .if2 .left), lt-ltb _ _ (c .before .before .if3 .left), le-ltb _ _ (c .before .if4 .left)) (r .0), r .1)
+    (rw (le-ltb _ _ (e .before .if1 .left), le-ltb _ _ (e .if2 .left), lt-ltb _ _ (c .before .before .if3 .left), lt-ltb _ _ (c .before .if4 .left)) (r .0), r .1)
 
 pub in-table-spec : {M : Type 1} → statement M
 in-table-spec =

@@ -25,13 +25,10 @@ returns-4 c = λ room. omega arith
 add-used : tie.Need-add-used
 add-used c = search needs
 
-add-used-2 : tie.Need-add-used-2
-add-used-2 c = search needs
-
 mul-used : tie.Need-mul-used
 mul-used c =
     let a = c .before .before .before .before .before .args in
-    let rows : a .count + a .letters + 1 ≤ mostStates + mostLetters + 1 = omega arith in
+    let rows : a .count + a .letters ≤ mostStates + mostLetters = omega arith in
     let nodes : a .count ≤ mostStates = omega arith in
     omega (arith, mul-le-mul rows nodes)
 
@@ -54,7 +51,6 @@ has-room-spec =
     cast-if4
     returns-4
     add-used
-    add-used-2
     mul-used
     returns-5
     returns-6

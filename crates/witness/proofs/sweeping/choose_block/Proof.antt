@@ -6,7 +6,7 @@ use Prim.Native.Nat.{ℕ, _+_, _-_, _*_, _≤_, _<_}
 use lib.ListN.{length}
 use Rattle.refusals.proofs.Telling.{told, told-not}
 use Rattle.trees.specs.Tree.{mostOfEntry}
-use Rattle.derivations.specs.Ways.{World, world, weightIn, whole}
+use Rattle.derivations.specs.Ways.{World, world, weightIn, highest}
 use Rattle.witness.specs.Choices.{marked, choiceAt, Item, Small}
 use Rattle.witness.specs.Due.{DueAt, StandsAt}
 use Rattle.witness.specs.Sweeping.{swept, ChoosesTo}
@@ -22,7 +22,7 @@ use Rattle.witness.proofs.sweeping.choose_block.Tie as tie
 abbrev Inv-loop : tie.InvT-loop
 Inv-loop target count letters rests children-r children-s wholes counts choices₀ xs₀ ys₀ us₀ vs₀ k near from end x₀ p₀ choices xs ys us vs x p =
     ((from ≤ p) × (p ≤ end))
-    × ((1 ≤ x) × (x ≤ whole (world count letters rests children-r children-s wholes target counts)))
+    × ((1 ≤ x) × (x ≤ highest (world count letters rests children-r children-s wholes target counts)))
     × ChoosesTo (world count letters rests children-r children-s wholes target counts) (k .0) (k .0) p choices₀ true choices
     × (length xs ≡ length xs₀)
     × (length ys ≡ length ys₀)

@@ -4,7 +4,7 @@ use mathlib.Core.Path.{_≡_, refl, subst, _∙_}
 use Prim.Native.Nat.{ℕ, _-_, _≤_}
 use lib.ListN.{length}
 use Rattle.refusals.proofs.Telling.{told-not}
-use Rattle.derivations.specs.Ways.{World, world, whole}
+use Rattle.derivations.specs.Ways.{World, world, highest}
 use Rattle.witness.specs.Choices.{Small}
 use Rattle.witness.specs.Sweeping.{swept, Choosing, ChoosesTo}
 use Rattle.witness.proofs.Places.{stands-row, small-kept}
@@ -18,7 +18,7 @@ use Rattle.witness.proofs.sweeping.choose_weight.Tie as tie
 abbrev Inv-loop : tie.InvT-loop
 Inv-loop target count letters rests children-r children-s wholes counts choices₀ xs₀ ys₀ us₀ vs₀ k end x₀ from₀ choices xs ys us vs x from =
     ((from ≤ end) × (end ≡ swept (world count letters rests children-r children-s wholes target counts)))
-    × ((1 ≤ x) × (x ≤ whole (world count letters rests children-r children-s wholes target counts)))
+    × ((1 ≤ x) × (x ≤ highest (world count letters rests children-r children-s wholes target counts)))
     × ChoosesTo (world count letters rests children-r children-s wholes target counts) (k .0) (k .0) from choices₀ true choices
     × (length xs ≡ length xs₀)
     × (length ys ≡ length ys₀)

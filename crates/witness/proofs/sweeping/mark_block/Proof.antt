@@ -2,7 +2,7 @@
 use mathlib.Core.Path.{_≡_, subst}
 use Prim.Native.Nat.{ℕ, _-_, _≤_, _<_}
 use Rattle.refusals.proofs.Telling.{told, told-not}
-use Rattle.derivations.specs.Ways.{World, world, weightIn, whole}
+use Rattle.derivations.specs.Ways.{World, world, weightIn, highest}
 use Rattle.witness.specs.Choices.{cells, Item, Small}
 use Rattle.witness.specs.Sweeping.{MarksTo}
 use Rattle.witness.proofs.Places.{stands-row, stands-item, small-kept}
@@ -14,7 +14,7 @@ use Rattle.witness.proofs.sweeping.mark_block.Tie as tie
 
 abbrev Inv-loop : tie.InvT-loop
 Inv-loop target count letters rests children-r children-s wholes counts choices₀ k near from end x₀ p₀ choices x p =
-    (from ≤ p) × (p ≤ end) × (1 ≤ x) × (x ≤ whole (world count letters rests children-r children-s wholes target counts))
+    (from ≤ p) × (p ≤ end) × (1 ≤ x) × (x ≤ highest (world count letters rests children-r children-s wholes target counts))
     × MarksTo (world count letters rests children-r children-s wholes target counts) (k .0) p choices₀ choices
 
 abbrev μ-loop : tie.MeasureT-loop

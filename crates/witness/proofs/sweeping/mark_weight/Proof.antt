@@ -2,7 +2,7 @@
 use mathlib.Core.Path.{_≡_, sym, subst}
 use Prim.Native.Nat.{ℕ, _≤_, _<_}
 use Rattle.refusals.proofs.Telling.{told-not}
-use Rattle.derivations.specs.Ways.{World, world, whole}
+use Rattle.derivations.specs.Ways.{World, world, highest}
 use Rattle.witness.specs.Choices.{Small}
 use Rattle.witness.specs.Sweeping.{swept, Marking, MarksTo}
 use Rattle.witness.proofs.Places.{stands-row, small-kept}
@@ -14,7 +14,7 @@ use Rattle.witness.proofs.sweeping.mark_weight.Tie as tie
 
 abbrev Inv-loop : tie.InvT-loop
 Inv-loop target count letters rests children-r children-s wholes counts choices₀ k x₀ end₀ choices x end =
-    (1 ≤ x) × (x ≤ whole (world count letters rests children-r children-s wholes target counts))
+    (1 ≤ x) × (x ≤ highest (world count letters rests children-r children-s wholes target counts))
     × (end ≤ swept (world count letters rests children-r children-s wholes target counts))
     × MarksTo (world count letters rests children-r children-s wholes target counts) (k .0) end choices₀ choices
 
@@ -42,7 +42,7 @@ earlier : (c : tie.After-block-before Inv-loop μ-loop) → c .block-before .res
 earlier c = c .block-before .ensures .1 (c .before .loop-test .taken)
 
 -- the first number of the item at its first one
-row : (c : tie.After-item-at Inv-loop μ-loop) → c .item-at .result .first ≤ whole (inWorld (entered (looked (c .before .before))))
+row : (c : tie.After-item-at Inv-loop μ-loop) → c .item-at .result .first ≤ highest (inWorld (entered (looked (c .before .before))))
 row c =
     let at-before = c .before .before .before .before in
     let at-loop = at-before .before .before in
@@ -51,9 +51,6 @@ row c =
 
 add-x : tie.Need-add-x Inv-loop μ-loop
 add-x c = let p = c .before .before .before .before .before .before .before .before .pre .0 in omega (arith, p .few, p .short)
-
-add-x-2 : tie.Need-add-x-2 Inv-loop μ-loop
-add-x-2 c = let p = c .before .before .before .before .before .before .before .before .pre .0 in omega (arith, p .few, p .short)
 
 swept-requires : tie.Need-swept-requires Inv-loop μ-loop
 swept-requires c κs = search needs
@@ -148,7 +145,6 @@ mark-weight-spec =
     Inv-loop
     μ-loop
     add-x
-    add-x-2
     swept-requires
     loop-holds
     block-before-requires

@@ -10,14 +10,11 @@ use Rattle.witness.proofs.sweeping.swept.Tie as tie
 add-cells : tie.Need-add-cells
 add-cells c = search needs
 
-add-cells-2 : tie.Need-add-cells-2
-add-cells-2 c = search needs
-
 mul-cells : tie.Need-mul-cells
 mul-cells c =
     let a = c .args in
     let nodes : a .count ≤ mostStates = c .pre .0 in
-    let rows : a .count + a .letters + 1 ≤ mostStates + mostLetters + 1 = omega (arith, c .pre .0, c .pre .1) in
+    let rows : a .count + a .letters ≤ mostStates + mostLetters = omega (arith, c .pre .0, c .pre .1) in
     omega (arith, mul-le-mul rows nodes)
 
 returns : tie.Need-returns
@@ -27,4 +24,4 @@ returns-2 : tie.Need-returns-2
 returns-2 c = search needs
 
 pub swept-spec : {M : Type 1} → statement M
-swept-spec = tie.close (tie.spec add-cells add-cells-2 mul-cells returns returns-2)
+swept-spec = tie.close (tie.spec add-cells mul-cells returns returns-2)
