@@ -1,3 +1,4 @@
 mod Verdicts
 mod Settling
 pub mod GivenList
+pub mod Relations

@@ -1,12 +1,11 @@
 -- What is ready fits the search where the sizes have passed, and what the search finds is the verdict. Assumes nothing.
-use mathlib.Core.Path.{_≡_, sym, ap, _∙_}
 use mathlib.Core.List.{List}
 use Prim.Native.Nat.{ℕ, suc, _+_, _*_, _≤_}
 use native.Mathlib.Nat.{mul-le-mul}
 use native.Mathlib.Omega.{arith}
-use lib.ListN.{length, length-map}
+use lib.ListN.{length}
 use Rattle.words.specs.Word.{Word}
-use Rattle.words.specs.Bytes.{letter, word}
+use Rattle.words.specs.Bytes.{word}
 use Rattle.products.specs.Product.{plain}
 use Rattle.sizes.specs.Questions.{side}
 use Rattle.sizes.proofs.Passing.{SizesPassed}
@@ -20,11 +19,10 @@ use Rattle.search.specs.declared.Found.the-variants.{Series, None, Unfit}
 use Rattle.engine.specs.Calls.{VerdictRight}
 use Rattle.engine.specs.Judging.{ofFound, Settled}
 
--- The tree has no more nodes than the list has letters, and one; so where the form has a letter, a row for each node and for each letter and one more fit in
--- q × q entries.
-used-within : (m t count : ℕ) → count ≤ suc m → 1 ≤ t → used count t ≤ side m t * side m t
-used-within m t count few some =
-    let rows : count + suc t ≤ side m t = omega arith in
+-- The tree has no more nodes than the list has letters, and one; so a row for each node and for each letter of the form fit in q × q entries.
+used-within : (m t count : ℕ) → count ≤ suc m → used count t ≤ side m t * side m t
+used-within m t count few =
+    let rows : count + t ≤ side m t = omega arith in
     let nodes : count ≤ side m t = omega arith in
     mul-le-mul rows nodes
 
@@ -36,7 +34,7 @@ verdict-right gens form n before after None right = right
 verdict-right gens form n before after Unfit right = right
 
 module _ (n : ℕ) {gens : List Word} {m count : ℕ} {letters rests childrenR childrenS wholes form : List ℕ}
-    (ready : ReadyFor gens m count letters rests childrenR childrenS wholes form) (some : length form ≡ 0 → ⊥) where
+    (ready : ReadyFor gens m count letters rests childrenR childrenS wholes form) where
   posed : Posed gens (numbered gens) count letters rests childrenR childrenS wholes form
   posed =
       record {
@@ -44,7 +42,6 @@ module _ (n : ℕ) {gens : List Word} {m count : ℕ} {letters rests childrenR c
         tree = ready .tree;
         size = ready .size;
         target-normal = ready .form-normal;
-        target-some = λ e. some (sym (length-map form letter) ∙ ap length e);
       }
 
   module _ (lent : Lent) (passed : SizesPassed m (length form) n (length (lent .first)) (length (lent .second)) (length (lent .witness))) where
@@ -52,7 +49,7 @@ module _ (n : ℕ) {gens : List Word} {m count : ℕ} {letters rests childrenR c
     q = side m (length form)
 
     within : used count (length form) ≤ q * q
-    within = used-within m (length form) count (ready .few) (omega (arith, some))
+    within = used-within m (length form) count (ready .few)
 
     fits : Fits count letters rests childrenR childrenS wholes form n lent
     fits =

@@ -28,7 +28,7 @@ fn verdict_of(found: Found) -> Verdict
     }
 }
 
-// The verdict on a reduced target. The empty word is the product of no factors.
+// The verdict on a reduced target: what the search finds.
 fn decide(
     form: &[u8],
     count: usize,
@@ -48,9 +48,6 @@ fn decide(
         (record { first = now (first .entry); second = now (second .entry); witness = now (witness .entry) })
         (record { first = now (first .exit); second = now (second .exit); witness = now (witness .exit) })) ⌝ }
 {
-    if form.len() == 0 {
-        return Verdict::Member(Factors(0));
-    }
     verdict_of(search::least(
         form,
         count,

@@ -13,9 +13,9 @@ pub enum Verdict {
     Refused(Refusal),
 }
 
-// Is the target a product of at most n of the list's generators? Of a member's least series the first, when numbers are compared from left to right, is
-// written to the front of `witness`, as generator numbers, and the count is how many they are. A refusal changes nothing; after a verdict the first q * q
-// entries of both tables are 0.
+// Is the target a product of the list's generators, of at least one factor and at most n? Of a member's least series the first, when numbers are compared
+// from left to right, is written to the front of `witness`, as generator numbers, and the count is how many they are. A refusal changes nothing; after a
+// verdict the first q * q entries of both tables are 0.
 pub fn judge(
     bytes: &[u8],
     ends: &[u16],

@@ -1,22 +1,18 @@
--- The table is closed and then the rows are filled, and what stands at the end of the last row decides.
---     decided            what is ready fits both, so the verdict by that entry is right
---     nothing-decided    the empty word is the product of no factors
+-- The table is closed and then the rows are filled. What is ready fits both, so the verdict by what stands at the end of the last row is right: `decided`.
 -- Assumes that the list and the target are ready, and that questions 12 and 15 have passed.
 use mathlib.Core.Bool.{Bool}
-use mathlib.Core.Path.{_≡_, refl, sym, ap, _∙_}
-use mathlib.Core.List.{List, []}
+use mathlib.Core.Path.{_≡_, refl}
+use mathlib.Core.List.{List}
 use Prim.Native.Nat.{ℕ, zero, suc, _*_, _≤_}
 use native.Mathlib.Nat.{mul-le-mul}
 use native.Mathlib.Omega.{arith}
-use lib.ListN.{length, length-map}
+use lib.ListN.{length}
 use borrow.Author.Tests.{ne-eqb}
 use Rattle.limits.specs.Limits.{mostStates}
 use Rattle.words.specs.Word.{Word}
-use Rattle.words.specs.Bytes.{letter, word}
-use Rattle.words.proofs.NormalForm.{equal-path}
+use Rattle.words.specs.Bytes.{word}
 use Rattle.products.specs.Product.{YesRight, NoRight, plain}
 use Rattle.products.specs.State.{weightless}
-use Rattle.products.proofs.Unbounded.{verdict-yes-empty}
 use Rattle.sizes.specs.Questions.{side}
 use Rattle.sizes.proofs.Passing.{SizesPassed}
 use Rattle.trees.specs.Tree.{at}
@@ -31,11 +27,6 @@ use Rattle.rows.proofs.Reaching.{row-yes, row-no}
 use Rattle.queries.specs.Ready.{ReadyFor}
 use Rattle.reach.specs.Calls.{Lent, ReachedRight}
 use Rattle.reach.specs.Deciding.{ofEntry, Decides}
-use Rattle.reach.specs.declared.Reached.the-variants.{Yes}
-
-pub nothing-decided : (q : ℕ) (gens : List Word) (target : Word) (lent : Lent) → target ≡ [] → Decides q gens target Yes lent lent
-nothing-decided q gens target lent nothing =
-    record { right = verdict-yes-empty gens target (equal-path (sym nothing)); first = refl; second = refl }
 
 -- a verdict by an entry
 by-entry : (gens : List Word) (target : Word) (entry : ℕ) → (entry ≡ 0 → YesRight (plain gens) target) → ((entry ≡ 0 → ⊥) → NoRight (plain gens) target)
@@ -59,9 +50,8 @@ module _ {gens : List Word} {m count : ℕ} {letters rests childrenR childrenS w
   module _ (lent : Lent) (passed : SizesPassed m (length form) 0 (length (lent .first)) (length (lent .second)) 0)
       (r : Bool) {table : List ℕ} (closes : FillsTable weightless count letters rests childrenR childrenS wholes 1 (lent .first) r table)
       (s : Bool) {rows : List ℕ} (fills : FillsRows count 1 childrenR childrenS form table (lent .second) s rows) where
-    pub decided : (length form ≡ 0 → ⊥)
-        → Decides (side m (length form)) gens (word form) (ofEntry (at rows (length form * count))) lent (record { first = table; second = rows })
-    decided some =
+    pub decided : Decides (side m (length form)) gens (word form) (ofEntry (at rows (length form * count))) lent (record { first = table; second = rows })
+    decided =
         let q : ℕ = side m (length form) in
         let (pairs-within, rows-within) = square-within m (length form) count (ready .few) in
         let fits = tree-fits (ready .tree) {n = 1} {table = lent .first} (ready .size) (omega (arith, few-nodes)) (omega arith) (omega (arith, pairs-within, passed .first-room)) in
@@ -73,8 +63,7 @@ module _ {gens : List Word} {m count : ℕ} {letters rests childrenR childrenS w
           right =
               by-entry gens (word form) (at rows (length form * count))
               (row-yes (ready .normal) (ready .tree) (ready .size) led (filled .right))
-              (row-no (ready .normal) (ready .tree) (ready .size) led (filled .right) (ready .form-normal)
-              (λ e. some (sym (length-map form letter) ∙ ap length e)));
+              (row-no (ready .normal) (ready .tree) (ready .size) led (filled .right) (ready .form-normal));
           first = drop-later (count * count) (q * q) table (lent .first) pairs-within (closed .kept);
           second = drop-later (suc (length form) * count) (q * q) rows (lent .second) rows-within (filled .kept);
         }

@@ -2,3 +2,4 @@ mod RoomPassed
 mod LastEntry
 mod AfterQuestions
 mod GivenList
+pub mod Relations

@@ -21,7 +21,7 @@ pub record Lent : Type 0 where
   pub second : List ℕ
 
 -- A verdict on the target, by the list's generators. 02: "Yes holds exactly when some series of generator numbers, of any length, multiplies to the target."
--- No holds exactly when none does.
+-- M-105: "a product has one factor or more". No holds exactly when none does.
 abbrev pub ReachedRight : List Word → Word → Reached → Type 0
 ReachedRight gens target Yes = YesRight (plain gens) target
 ReachedRight gens target No = NoRight (plain gens) target

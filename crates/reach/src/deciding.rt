@@ -30,7 +30,7 @@ fn of_entry(entry: usize) -> Reached
     Reached::No
 }
 
-// The verdict on a reduced target. The empty word is the product of no factors. What is ready fits, so the table is closed and the rows are filled.
+// The verdict on a reduced target. What is ready fits, so the table is closed and the rows are filled.
 fn decide(
     form: &[u8],
     count: usize,
@@ -50,9 +50,6 @@ fn decide(
         (record { first = now (first .entry); second = now (second .entry) })
         (record { first = now (first .exit); second = now (second .exit) })) ⌝ }
 {
-    if form.len() == 0 {
-        return Reached::Yes;
-    }
     tables::close(count, letters, rests, children_r, children_s, wholes, first);
     rows::fill(
         form,

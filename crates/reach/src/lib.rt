@@ -12,7 +12,7 @@ pub enum Reached {
     Refused(Refusal),
 }
 
-// Is the target a product of the list's generators, of any number of them? No series is written and nothing is counted. A refusal changes nothing; after a
+// Is the target a product of the list's generators, of one factor or more? No series is written and nothing is counted. A refusal changes nothing; after a
 // yes or a no the first q * q entries of both tables are 0.
 pub fn reachable(
     bytes: &[u8],

@@ -4,3 +4,4 @@ mod Verdicts
 mod Lists
 mod FactorParts
 mod Showing
+pub mod Relations

@@ -1,8 +1,17 @@
 -- Each finding is a verdict of its own. Assumes nothing.
-use mathlib.Core.Path.{refl}
+use mathlib.Core.Path.{_≡_, refl, sym, ap}
+use Rattle.words.specs.declared.Factors.{Factors}
+use Rattle.search.specs.declared.Found.{Found}
+use Rattle.search.specs.declared.Found.the-variants.{Series}
+use Rattle.engine.specs.declared.Verdict.the-variants.{Member}
+use Rattle.engine.specs.Judging.{ofFound}
 use borrow.Author.Needs.{needs}
 use Rattle.engine.proofs.judging.verdict_of.Statement.{statement}
 use Rattle.engine.proofs.judging.verdict_of.Tie as tie
+
+-- a series that is found is a member
+of-series : {found : Found} {count : Factors} → found ≡ Series count → Member count ≡ ofFound found
+of-series e = ap ofFound (sym e)
 
 enum-known-found : tie.Need-enum-known-found
 enum-known-found c = search needs
@@ -14,7 +23,7 @@ enum-told-2 : tie.Need-enum-told-2
 enum-told-2 c = search needs
 
 returns : tie.Need-returns
-returns c = rw (c .before .found .given .1) refl
+returns c = search (needs, of-series)
 
 returns-2 : tie.Need-returns-2
 returns-2 c = search needs
