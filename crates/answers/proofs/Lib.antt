@@ -3,3 +3,4 @@ pub mod LineLength
 mod Fields
 mod Storing
 pub mod Room
+pub mod Members

@@ -1,9 +1,9 @@
 -- What writing an answer's line promises. Assumes nothing: these are definitions.
-use mathlib.Core.Bool.{Bool, true}
+use mathlib.Core.Bool.{Bool, true, false}
 use mathlib.Core.Path.{_≡_}
 use mathlib.Core.List.{List}
 use Prim.Native.Nat.{ℕ, _^_, _≤_, _<_}
-use lib.Dec.{leb}
+use lib.Dec.{leb, ltb}
 use lib.ListN.{length, getD}
 use Rattle.limits.specs.Limits.{mostFactors}
 use Rattle.refusals.specs.Telling.{pick}
@@ -15,13 +15,14 @@ use Rattle.answers.specs.declared.Answer.the-variants.{Member, None, Ref
 use Rattle.answers.specs.declared.Lined.{Lined}
 use Rattle.answers.specs.declared.Lined.the-variants.{Length, TooShort, FactorsMissing}
 
--- 01: "For a member the first k witness bytes are the factors". Has the witness as many bytes as the answer counts factors?
+-- Has the answer its factors? 01: "For a member the first k witness bytes are the factors"; 02, M-105: "a product has one factor or more". So a member counts
+-- one or more, and the witness has as many bytes.
 abbrev pub witnessed : Answer → List ℕ → Bool
-witnessed (Member count) witness = leb (count .0) (length witness)
+witnessed (Member count) witness = pick (ltb 0 (count .0)) (leb (count .0) (length witness)) false
 witnessed (None n) witness = true
 witnessed (Refused refusal) witness = true
 
--- Three cases: the witness lacks factors; the line is longer than the slice; or the line is written, and the answer is its length.
+-- Three cases: the answer lacks its factors; the line is longer than the slice; or the line is written, and the answer is its length.
 abbrev pub lined : Answer → List ℕ → ℕ → Lined
 lined answer witness room =
     let long = length (line answer witness) in

@@ -1,5 +1,5 @@
 -- The line that says an answer. Document 01: "It is `member`, the count and the factors; or `none` and n; or `refused`, the number and the place.
--- Printed numbers are decimal, fields are separated by one space, and byte 10 ends the line; with no factors it is `member 0`."
+-- Printed numbers are decimal, fields are separated by one space, and byte 10 ends the line".
 -- Assumes nothing: these are definitions.
 use mathlib.Core.List.{List, [], _∷_, _++_}
 use Prim.Native.Nat.{ℕ, zero, suc, _+_, _/_, _%_}

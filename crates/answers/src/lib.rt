@@ -17,19 +17,19 @@ pub enum Answer {
     Refused(Refusal),
 }
 
-// How long the line is; or that the slice is too short for it; or that the witness has fewer bytes than the member has factors.
+// How long the line is; or that the slice is too short for it; or a member without its factors: the count is 0, or the witness has fewer bytes.
 pub enum Lined {
     Length(usize),
     TooShort,
     FactorsMissing,
 }
 
-// Whether the witness has all factors that the answer counts.
+// Whether the answer has its factors: a member counts one or more, and the witness has them all.
 fn witnessed(answer: Answer, witness: &[u8]) -> bool
     ensures { λ r. ⌜ r ≡ witnessedOf answer (now (witness .entry)) ⌝ }
 {
     match answer {
-        Answer::Member(count) => count.0 as usize <= witness.len(),
+        Answer::Member(count) => 0 < count.0 && count.0 as usize <= witness.len(),
         Answer::None(_) => true,
         Answer::Refused(_) => true,
     }

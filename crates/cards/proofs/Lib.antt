@@ -16,5 +16,6 @@ mod ProductAnswers
 mod LongForms
 mod MatrixAnswers
 mod CardFields
+pub mod LinedAnswers
 mod CardEnds
 mod MapQuestions

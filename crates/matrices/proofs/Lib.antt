@@ -1,5 +1,5 @@
 pub mod Signed
-mod Range
+pub mod Range
 mod Signs
 mod Endings
 mod Parts

@@ -8,8 +8,8 @@ use answers::Lined;
 use words::Refusal;
 ghost use Rattle.showing.specs.Printing.{Prints};
 
-// What became of a line: the system took it whole; it was not written, since the witness has fewer bytes than the member has factors, or since it has more
-// than answers::LINE_BYTES bytes; or the system took a part of it, or nothing.
+// What became of a line: the system took it whole; it was not written, since a member lacks its factors (it counts none, or the witness has fewer bytes), or
+// since it has more than answers::LINE_BYTES bytes; or the system took a part of it, or nothing.
 pub enum Printed {
     Whole,
     FactorsMissing,
