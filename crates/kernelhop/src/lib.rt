@@ -52,9 +52,9 @@ pub struct Part {
 // Which release this library is, as one number (`release` of specs/). It has its one home here, in the promise and in the code: whoever else needs it asks.
 #[no_mangle]
 pub extern "C" fn kernelhop_version() -> u32
-    ensures { λ r. ⌜ r ≡ release 1 5 0 ⌝ }
+    ensures { λ r. ⌜ r ≡ release 1 6 0 ⌝ }
 {
-    10_500
+    10_600
 }
 
 // The same as words::reduce.
