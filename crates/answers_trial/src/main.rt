@@ -38,7 +38,7 @@ fn show_refused(refusal: Refusal) {
     show(Answer::Refused(refusal), b"");
 }
 
-// The factors are the first bytes of the witness; where it has fewer, there is no line.
+// A member has one factor or more, the first bytes of the witness; where it counts none, or the witness has fewer, there is no line.
 fn short_members() {
     show_member(0, b"");
     show_member(0, b"A");
@@ -124,10 +124,11 @@ fn member_written() {
     write(Answer::Member(Factors(3)), b"\x00\x0a\xc8", &mut longer);
 }
 
-// A slice that is long enough for the line of three factors, and a witness that has two.
+// A slice that is long enough for the line of three factors, and a witness that has two, of which three are counted, or none.
 fn factors_missing() {
     let mut longer = [46u8; 24];
     write(Answer::Member(Factors(3)), b"\x00\x0a", &mut longer);
+    write(Answer::Member(Factors(0)), b"\x00\x0a", &mut longer);
     let mut none = [46u8; 0];
     write(Answer::Member(Factors(1)), b"", &mut none);
 }

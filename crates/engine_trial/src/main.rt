@@ -17,6 +17,9 @@ const ENOUGH: usize = 225;
 
 const TOO_SHORT: usize = 224;
 
+// Just enough for q = 161, by 160 letters and an empty target.
+const SQUARE: usize = 25921;
+
 // Enough for the largest n, and for one more.
 const WITNESS: usize = 1000;
 
@@ -103,7 +106,7 @@ fn worked_values() {
     small(b"SSS", &one, b"", 5);
 }
 
-// No factors, and generators that are empty or reduce to nothing.
+// No generators or no factors, and generators that are empty or reduce to nothing.
 fn empty_words() {
     without_list(b"", 1000);
     without_list(b"SRRSS", 1000);
@@ -119,6 +122,39 @@ fn empty_words() {
     small(b"R", &empty_before_r, b"R", 1000);
     let vanishing_before_s = [5u16, 9];
     small(b"RSSSRSSSS", &vanishing_before_s, b"SSSS", 1000);
+}
+
+// Relations, products of the identity: R twice, S three times, S and SS; P11's list with R behind it, where the third generator is its own inverse. No power
+// of SR is one.
+fn relations() {
+    let one = [1u16];
+    small(b"R", &one, b"", 2);
+    small(b"R", &one, b"", 1);
+    small(b"S", &one, b"", 1000);
+    let s_before_ss = [1u16, 3];
+    small(b"SSS", &s_before_ss, b"", 1000);
+    let eleven_and_r = [4u16, 5, 9, 10];
+    small(b"RSRSSSRSSR", &eleven_and_r, b"", 4);
+    let two = [2u16];
+    small(b"SR", &two, b"", 1000);
+}
+
+// A generator of 80 letters and its inverse, which has 80 too. No two of their suffixes are the same, so there are as many states as q is, and the tables
+// are used to their last entries.
+fn whole_square() {
+    let mut first = [65535u16; SQUARE];
+    let mut second = [65535u16; SQUARE];
+    let mut witness = [255u8; WITNESS];
+    let ends = [80u16, 160];
+    judge(
+        b"RSRSSRSRSSRSRSSRSRSSRSRSSRSRSSRSRSSRSRSSRSRSSRSRSSRSRSSRSRSSRSRSSRSRSSRSRSSRSRSSSRSSRSRSSRSRSSRSRSSRSRSSRSRSSRSRSSRSRSSRSRSSRSRSSRSRSSRSRSSRSRSSRSRSSRSRSSRSRSSR",
+        &ends,
+        b"",
+        2,
+        &mut first,
+        &mut second,
+        &mut witness,
+    );
 }
 
 // The count is the bound, is above it, and is far below it.
@@ -257,7 +293,7 @@ fn bounds_too_large() {
     );
 }
 
-// Question 14: no factors with no witness, and P10 with a witness of 2 bytes and of 3.
+// Question 14: n 0 with no witness, and P10 with a witness of 2 bytes and of 3.
 fn witness_rooms() {
     let mut first = [65535u16; TABLE];
     let mut second = [65535u16; TABLE];
@@ -434,6 +470,8 @@ fn largest_calls() {
 fn main() {
     worked_values();
     empty_words();
+    relations();
+    whole_square();
     bounds();
     firsts();
     many_generators();

@@ -13,6 +13,9 @@ const ENOUGH: usize = 225;
 
 const TOO_SHORT: usize = 224;
 
+// Just enough for q = 161, by 160 letters and an empty target.
+const SQUARE: usize = 25921;
+
 fn call(bytes: &[u8], ends: &[u16], target: &[u8]) {
     showing::lists::list(bytes, ends);
     io::write_all(1, b", '");
@@ -75,7 +78,7 @@ fn worked_values() {
     small(b"SSS", &one, b"");
 }
 
-// Generators that are empty or reduce to nothing.
+// No generators, and generators that are empty or reduce to nothing.
 fn empty_words() {
     without_list(b"SRRSS");
     let empty = [0u16];
@@ -85,6 +88,35 @@ fn empty_words() {
     small(b"R", &empty_before_r, b"R");
     let vanishing_before_s = [5u16, 9];
     small(b"RSSSRSSSS", &vanishing_before_s, b"SSSS");
+}
+
+// Relations, products of the identity: R twice, S and SS, P11's list with R behind it, T and its inverse. No power of T is one.
+fn relations() {
+    let one = [1u16];
+    small(b"R", &one, b"");
+    let s_before_ss = [1u16, 3];
+    small(b"SSS", &s_before_ss, b"");
+    let eleven_and_r = [4u16, 5, 9, 10];
+    small(b"RSRSSSRSSR", &eleven_and_r, b"");
+    let t = [2u16];
+    small(b"SR", &t, b"");
+    let both = [2u16, 5];
+    small(b"SRRSS", &both, b"");
+}
+
+// A generator of 80 letters and its inverse, which has 80 too. No two of their suffixes are the same, so there are as many states as q is, and the tables
+// are used to their last entries.
+fn whole_square() {
+    let mut first = [65535u16; SQUARE];
+    let mut second = [65535u16; SQUARE];
+    let ends = [80u16, 160];
+    ask(
+        b"RSRSSRSRSSRSRSSRSRSSRSRSSRSRSSRSRSSRSRSSRSRSSRSRSSRSRSSRSRSSRSRSSRSRSSRSRSSRSRSSSRSSRSRSSRSRSSRSRSSRSRSSRSRSSRSRSSRSRSSRSRSSRSRSSRSRSSRSRSSRSRSSRSRSSRSRSSRSRSSR",
+        &ends,
+        b"",
+        &mut first,
+        &mut second,
+    );
 }
 
 // Powers of T: each product of SR is one, its inverse is none of them, and R is not either; with the inverse R is still none.
@@ -166,6 +198,8 @@ fn largest_calls() {
 fn main() {
     worked_values();
     empty_words();
+    relations();
+    whole_square();
     powers_of_t();
     beyond_every_bound();
     refused();

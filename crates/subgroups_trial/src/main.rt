@@ -21,6 +21,9 @@ const MIDDLE_TABLE: usize = 47089;
 
 const LARGE_TABLE: usize = 136161;
 
+// Just enough for q = 201, by 200 letters and an empty target.
+const SQUARE: usize = 40401;
+
 // Enough for q = 849, by 832 letters and a target of 8, and one entry less.
 const LARGEST_TABLE: usize = 720801;
 
@@ -120,7 +123,7 @@ fn worked_values() {
     small(b"RSRSSSRSS", &three, b"R", 3);
 }
 
-// No factors, and generators that are empty or reduce to nothing.
+// No generators or no factors, and generators that are empty or reduce to nothing.
 fn empty_words() {
     without_list(b"", 0);
     without_list(b"R", 1000);
@@ -130,6 +133,44 @@ fn empty_words() {
     let vanishing_before_s = [5u16, 9];
     small(b"RSSSRSSSS", &vanishing_before_s, b"SSSS", 1000);
     small(b"RSSSRSSSS", &vanishing_before_s, b"SS", 1000);
+}
+
+// Relations, products of the identity: a generator that vanishes; R twice; S and SS; P11's list with R behind it, and SR, each with a generator and its
+// inverse. An empty list has none.
+fn relations() {
+    let three = [3u16];
+    small(b"SSS", &three, b"", 5);
+    let r = [1u16];
+    small(b"R", &r, b"", 2);
+    small(b"R", &r, b"", 1);
+    let s_before_ss = [1u16, 3];
+    small(b"SSS", &s_before_ss, b"", 1000);
+    let eleven_and_r = [4u16, 5, 9, 10];
+    small(b"RSRSSSRSSR", &eleven_and_r, b"", 4);
+    let sr = [2u16];
+    small(b"SR", &sr, b"", 1000);
+    small(b"SR", &sr, b"", 1);
+    without_list(b"", 1000);
+}
+
+// A generator of 80 letters, whose inverse has 120. No two of their suffixes are the same, so there are as many states as q is, and the tables are used to
+// their last entries.
+fn whole_square() {
+    let mut first = [65535u16; SQUARE];
+    let mut second = [65535u16; SQUARE];
+    let mut witness = [255u8; WITNESS];
+    let mut inverses = [46u8; INVERSES];
+    let ends = [80u16];
+    judge(
+        b"RSRSRSRSRSRSRSRSRSRSRSRSRSRSRSRSRSRSRSRSRSRSRSRSRSRSRSRSRSRSRSRSRSRSRSRSRSRSRSRS",
+        &ends,
+        b"",
+        2,
+        &mut first,
+        &mut second,
+        &mut witness,
+        &mut inverses,
+    );
 }
 
 // Several least series: the first is written, and a given number stands before an inverse's. SS is a generator or the inverse of S; R is its own inverse.
@@ -513,6 +554,8 @@ fn factors_of_refused() {
 fn main() {
     worked_values();
     empty_words();
+    relations();
+    whole_square();
     firsts();
     powers_of_t();
     four_generators();
