@@ -42,7 +42,7 @@ enum {
     KERNELHOP_STACK = 131072
 };
 
-/* The release that is linked: 10,000 times its major number, 100 times its minor one, and its patch number. So release 1.5.0 is 10500, and a later
+/* The release that is linked: 10,000 times its major number, 100 times its minor one, and its patch number. So release 1.6.0 is 10600, and a later
    release has a larger number. */
 uint32_t kernelhop_version(void);
 
@@ -81,6 +81,8 @@ struct kernelhop_outcome kernelhop_matrix_to_word(int64_t a, int64_t b, int64_t 
 
 /* Is the target a product of at most n generators? `bytes` has the generators' letters, one behind the other, and generator i, from 0, runs from
    ends[i - 1] (0 for the first) up to ends[i]. A generator may be empty.
+   A product has one factor or more. So a target that is empty, or vanishes by the two rules, asks for a relation: a product that equals the identity. And
+   with n 0 the answer is none.
    A member: value is k, the least number of factors, and the first k bytes of `witness` are generator numbers whose words, written one behind the
    other, equal the target by the two rules: of the series of that count the first when their numbers are compared from left to right. The rest of
    `witness` remains; for none all of it.
@@ -96,8 +98,8 @@ struct kernelhop_outcome kernelhop_judge(const uint8_t *bytes, size_t bytes_len,
                                          uint8_t *witness, size_t witness_len);
 
 /* Is the target a product of generators, of however many? The list is as for kernelhop_judge. Yes: value is 1. No: KERNELHOP_NONE, and value is 0; then
-   kernelhop_judge says none for every n. Factors are neither written nor counted, so what takes more of them than any n allows is a yes too. The empty
-   target is the product of no factors: a yes for every list.
+   kernelhop_judge says none for every n. Factors are neither written nor counted, so what takes more of them than any n allows is a yes too. A product
+   has one factor or more, so the empty target is a yes exactly where the list has a relation.
    After a yes or a no the first q * q entries of both tables are 0 and the others remain, with the q of kernelhop_judge, and whatever stood there.
    Asks: 7 to 12 as kernelhop_judge does; 15, first_len and second_len at least q * q. */
 struct kernelhop_outcome kernelhop_reachable(const uint8_t *bytes, size_t bytes_len, const uint16_t *ends, size_t ends_len, const uint8_t *target,
@@ -105,7 +107,7 @@ struct kernelhop_outcome kernelhop_reachable(const uint8_t *bytes, size_t bytes_
 
 /* Is the target a product of at most n factors, each of them a generator or the inverse of one? So a list is taken as the subgroup that it generates,
    and no inverse has to be typed. The list is as for kernelhop_judge. Factor i is generator i, and factor KERNELHOP_INVERSE + i its inverse; each counts
-   as one factor.
+   as one factor. A product has one factor or more, here too: a list with a generator has a relation of at most two, the generator and its inverse.
    A member: value is k, the least number of factors, and the first k bytes of `witness` are the numbers of such factors, whose words, written one behind
    the other, equal the target by the two rules: of the series of that count the first when their numbers are compared from left to right, so that every
    generator stands before every inverse. The rest of `witness` remains; for none all of it.

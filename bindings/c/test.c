@@ -51,7 +51,7 @@ static struct kernelhop_outcome word_to_matrix(const char *word, int64_t out[4])
 }
 
 static void version(void) {
-    CHECK(kernelhop_version() >= 10500);
+    CHECK(kernelhop_version() >= 10600);
 }
 
 static void words(void) {
@@ -208,7 +208,7 @@ static void verdicts(void) {
     CHECK(all_are(second, 0, q * q, 0) && second[q * q] == 65535);
 
     /* An empty list and an empty target: q is 1. */
-    CHECK(is(kernelhop_judge(NULL, 0, NULL, 0, NULL, 0, 0, first, 1, second, 1, NULL, 0), 0, 0));
+    CHECK(is(kernelhop_judge(NULL, 0, NULL, 0, NULL, 0, 0, first, 1, second, 1, NULL, 0), KERNELHOP_NONE, 0));
     CHECK(is(kernelhop_judge(NULL, 0, NULL, 0, NULL, 0, 0, NULL, 0, NULL, 0, NULL, 0), 15, 0));
     free(first);
     free(second);
@@ -230,17 +230,28 @@ static size_t join(const char *const *words, size_t count, uint8_t *bytes, uint1
     return len;
 }
 
-/* Is the target a member by just these factors, with n 1,000? */
-static int member_by(const char *const *words, size_t count, const char *target, const uint8_t *factors, size_t factors_len) {
-    static uint8_t witness[KERNELHOP_BOUND];
+/* What a verdict writes: all 9 before a call. */
+static uint8_t plain_witness[KERNELHOP_BOUND];
+
+/* The verdict on a list of words, with the largest tables. */
+static struct kernelhop_outcome judge(const char *const *words, size_t count, const char *target, uint16_t n) {
     uint8_t bytes[64];
     uint16_t ends[8];
     size_t bytes_len = join(words, count, bytes, ends);
-    memset(witness, 9, sizeof witness);
-    return is(kernelhop_judge(bytes, bytes_len, ends, count, (const uint8_t *)target, strlen(target), KERNELHOP_BOUND, largest_first, LARGEST,
-                              largest_second, LARGEST, witness, sizeof witness),
-              0, factors_len) &&
-           memcmp(witness, factors, factors_len) == 0 && witness[factors_len] == 9;
+    memset(plain_witness, 9, sizeof plain_witness);
+    return kernelhop_judge(bytes, bytes_len, ends, count, (const uint8_t *)target, strlen(target), n, largest_first, LARGEST, largest_second, LARGEST,
+                           plain_witness, sizeof plain_witness);
+}
+
+/* Is the target a member by just these factors, with n 1,000? */
+static int member_by(const char *const *words, size_t count, const char *target, const uint8_t *factors, size_t factors_len) {
+    return is(judge(words, count, target, KERNELHOP_BOUND), 0, factors_len) && memcmp(plain_witness, factors, factors_len) == 0 &&
+           plain_witness[factors_len] == 9;
+}
+
+/* Is it none, with nothing written? */
+static int none_for(const char *const *words, size_t count, const char *target, uint16_t n) {
+    return is(judge(words, count, target, n), KERNELHOP_NONE, n) && plain_witness[0] == 9;
 }
 
 /* Of several least series the first when numbers are compared from left to right. */
@@ -256,6 +267,29 @@ static void first_of_the_least(void) {
     CHECK(member_by((const char *[]){"S", "SS", "RS", "SR"}, 4, "SRS", (const uint8_t[]){0, 2}, 2));
     CHECK(member_by((const char *[]){"SS", "RS", "SR"}, 3, "RSR", (const uint8_t[]){0, 2, 2}, 3));
     CHECK(member_by((const char *[]){"RS", "SR"}, 2, "RSR", (const uint8_t[]){0, 0, 1, 0}, 4));
+}
+
+/* Products of one factor or more that equal the identity: an empty target asks for the first of the least. */
+static void relations(void) {
+    CHECK(member_by((const char *[]){"SSS"}, 1, "", (const uint8_t[]){0}, 1));
+    CHECK(member_by((const char *[]){"R"}, 1, "", (const uint8_t[]){0, 0}, 2));
+    CHECK(member_by((const char *[]){"S"}, 1, "", (const uint8_t[]){0, 0, 0}, 3));
+    CHECK(member_by((const char *[]){"S", "SS"}, 2, "", (const uint8_t[]){0, 1}, 2));
+    CHECK(member_by((const char *[]){"S", "SS"}, 2, "RSSSR", (const uint8_t[]){0, 1}, 2));
+    /* 2 2 and 3 3, since SRSS is its own inverse as R is; 0 1 2 3 has more factors. */
+    CHECK(member_by((const char *[]){"RSRS", "S", "SRSS", "R"}, 4, "", (const uint8_t[]){2, 2}, 2));
+    /* T and the inverse of U: the first of eight. */
+    CHECK(member_by((const char *[]){"SR", "RS"}, 2, "", (const uint8_t[]){0, 0, 1, 0, 0, 1}, 6));
+    CHECK(none_for((const char *[]){"SR", "RS"}, 2, "", 5));
+    /* An empty generator, and one that vanishes: of several the first. */
+    CHECK(member_by((const char *[]){""}, 1, "", (const uint8_t[]){0}, 1));
+    CHECK(member_by((const char *[]){"R", "RSSSR", ""}, 3, "", (const uint8_t[]){1}, 1));
+    /* With n 0 there is no product, nor is there one of a list that has no generators; and no power of T is the identity. */
+    CHECK(none_for((const char *[]){"SSS"}, 1, "", 0));
+    CHECK(none_for((const char *[]){""}, 1, "", 0));
+    CHECK(none_for((const char *[]){"R"}, 1, "", 1));
+    CHECK(none_for(NULL, 0, "", KERNELHOP_BOUND));
+    CHECK(none_for((const char *[]){"SR"}, 1, "", KERNELHOP_BOUND));
 }
 
 /* Four generators and a target of 80 letters in normal form: no call needs larger tables. */
@@ -292,12 +326,16 @@ static void without_a_bound(void) {
     CHECK(is(reachable((const char *[]){"SR"}, 1, "R"), KERNELHOP_NONE, 0));
     CHECK(is(reachable((const char *[]){"SR"}, 1, "RSS"), KERNELHOP_NONE, 0));
     CHECK(is(reachable((const char *[]){"", "SSS"}, 2, "S"), KERNELHOP_NONE, 0));
-    /* The product of no factors, also of a list that has none. */
-    CHECK(is(reachable((const char *[]){"SR"}, 1, "RSSSR"), 0, 1));
+    /* Relations. No power of T is one, and there is none of a list that has no generators. */
     CHECK(is(reachable((const char *[]){"SSS"}, 1, ""), 0, 1));
+    CHECK(is(reachable((const char *[]){"R"}, 1, ""), 0, 1));
+    CHECK(is(reachable((const char *[]){"S", "SS"}, 2, "RSSSR"), 0, 1));
+    CHECK(is(reachable((const char *[]){"RSRS", "S", "SRSS", "R"}, 4, ""), 0, 1));
+    CHECK(is(reachable((const char *[]){"SR", ""}, 2, ""), 0, 1));
+    CHECK(is(reachable((const char *[]){"SR"}, 1, "RSSSR"), KERNELHOP_NONE, 0));
     uint16_t one[1] = {65535};
     uint16_t other[1] = {65535};
-    CHECK(is(kernelhop_reachable(NULL, 0, NULL, 0, NULL, 0, one, 1, other, 1), 0, 1) && one[0] == 0 && other[0] == 0);
+    CHECK(is(kernelhop_reachable(NULL, 0, NULL, 0, NULL, 0, one, 1, other, 1), KERNELHOP_NONE, 0) && one[0] == 0 && other[0] == 0);
     CHECK(is(kernelhop_reachable(NULL, 0, NULL, 0, (const uint8_t *)"R", 1, largest_first, LARGEST, largest_second, LARGEST), KERNELHOP_NONE, 0));
     CHECK(is(kernelhop_reachable(NULL, 0, NULL, 0, NULL, 0, NULL, 0, NULL, 0), 15, 0));
 }
@@ -459,12 +497,34 @@ static void subgroups(void) {
     CHECK(member_of_subgroup("SS", (const uint8_t[]){INVERSE + 1}, 1, "SSSS"));
     /* A list without generators, and a bound of 0. */
     give(NULL, 0);
-    CHECK(member_of_subgroup("RSSSR", NULL, 0, ""));
     CHECK(is(in_subgroup("R", KERNELHOP_BOUND), KERNELHOP_NONE, KERNELHOP_BOUND) && inverses_are(""));
     give((const char *[]){"SR", "S"}, 2);
     CHECK(is(in_subgroup("SR", 0), KERNELHOP_NONE, 0) && inverses_are("RSSSS") && signed_witness[0] == 9);
-    give((const char *[]){"SR", "S"}, 2);
-    CHECK(is(in_subgroup("SSS", 0), 0, 0) && inverses_are("RSSSS") && signed_witness[0] == 9);
+}
+
+/* A generator and its inverse are a relation of every list that has one. */
+static void relations_of_subgroups(void) {
+    give((const char *[]){"SR"}, 1);
+    CHECK(member_of_subgroup("", (const uint8_t[]){0, INVERSE}, 2, "RSS"));
+    give((const char *[]){"RSRS", "S", "SRSS", "R"}, 4);
+    CHECK(member_of_subgroup("RSSSR", (const uint8_t[]){0, INVERSE}, 2, "SSRSSRSSSRSSR"));
+    /* The inverse stands in the list. */
+    give((const char *[]){"R"}, 1);
+    CHECK(member_of_subgroup("", (const uint8_t[]){0, 0}, 2, "R"));
+    give((const char *[]){"S", "SS"}, 2);
+    CHECK(member_of_subgroup("", (const uint8_t[]){0, 1}, 2, "SSS"));
+    /* A generator that vanishes, and an empty one. */
+    give((const char *[]){"SSS"}, 1);
+    CHECK(member_of_subgroup("", (const uint8_t[]){0}, 1, ""));
+    give((const char *[]){"R", ""}, 2);
+    CHECK(member_of_subgroup("", (const uint8_t[]){1}, 1, "R"));
+    /* With n 0 there is no product, nor is there one of a list that has no generators. */
+    give((const char *[]){"SSS"}, 1);
+    CHECK(is(in_subgroup("", 0), KERNELHOP_NONE, 0) && signed_witness[0] == 9);
+    give((const char *[]){"SR"}, 1);
+    CHECK(is(in_subgroup("", 1), KERNELHOP_NONE, 1) && signed_witness[0] == 9);
+    give(NULL, 0);
+    CHECK(is(in_subgroup("RSSSR", KERNELHOP_BOUND), KERNELHOP_NONE, KERNELHOP_BOUND) && signed_witness[0] == 9 && inverses_are(""));
 }
 
 /* Generators S, SR, T to the 40th, nothing, and SRR: what is given is shown as it is given, and an inverse in its normal form. */
@@ -631,7 +691,7 @@ static void lent_for_a_subgroup(void) {
     CHECK(is(kernelhop_judge_subgroup(bytes, 2, ends, 1, target, 4, 1, first, 197, second, 196, signed_witness, 1, inverses, room), KERNELHOP_NONE, 1));
     CHECK(all_are(first, 0, 196, 0) && first[196] == 65535 && inverses_are("RSS"));
     /* An empty list and an empty target: q is 1. */
-    CHECK(is(kernelhop_judge_subgroup(NULL, 0, NULL, 0, NULL, 0, 0, first, 1, second, 1, NULL, 0, inverses, room), 0, 0));
+    CHECK(is(kernelhop_judge_subgroup(NULL, 0, NULL, 0, NULL, 0, 0, first, 1, second, 1, NULL, 0, inverses, room), KERNELHOP_NONE, 0));
     CHECK(is(kernelhop_judge_subgroup(NULL, 0, NULL, 0, NULL, 0, 0, NULL, 0, NULL, 0, NULL, 0, inverses, room), 15, 0));
     CHECK(is(kernelhop_judge_subgroup(NULL, 0, NULL, 0, NULL, 0, 0, first, 1, second, 1, NULL, 0, NULL, 0), 14, 0));
 }
@@ -647,6 +707,13 @@ static void cards(void) {
     CHECK(witness[0] == 9);
     CHECK(is(kernelhop_answer_card(card, sizeof card, first, 225, second, 225, witness, 3), 0, 3));
     CHECK(witness[0] == 0 && witness[1] == 0 && witness[2] == 0);
+
+    /* Without a target it is empty: n 3 and the generator SSS, n 0 and no list. */
+    const uint8_t relation[] = {0x09, 3, 0, 1, 3, 0, 'S', 'S', 'S'};
+    const uint8_t nothing[] = {0x01, 0, 0};
+    memset(witness, 9, sizeof witness);
+    CHECK(is(kernelhop_answer_card(nothing, sizeof nothing, first, 225, second, 225, witness, 3), KERNELHOP_NONE, 0) && witness[0] == 9);
+    CHECK(is(kernelhop_answer_card(relation, sizeof relation, first, 225, second, 225, witness, 3), 0, 1) && witness[0] == 0 && witness[1] == 9);
 }
 
 static void *all(void *nothing) {
@@ -658,12 +725,14 @@ static void *all(void *nothing) {
     matrices();
     verdicts();
     first_of_the_least();
+    relations();
     largest_tables();
     without_a_bound();
     beyond_every_bound();
     refused_without_a_bound();
     tables_without_a_bound();
     subgroups();
+    relations_of_subgroups();
     letters_of_factors();
     letters_of_refused_lists();
     largest_signed_tables();

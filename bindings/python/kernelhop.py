@@ -1,7 +1,7 @@
 """Bounded products in the modular group, over the proved library of this repository, whose release is `__version__`.
 
 Words are in the letters R and S, where RR and SSS vanish and no other rule holds. Each function takes any words whatever: it answers, or it raises
-Refused.
+Refused. A product has one factor or more: so an empty target, or one that vanishes, asks for a relation, a product that equals the identity.
 
     >>> import kernelhop
     >>> kernelhop.verdict(["RSRS", "S", "SRSS"], "R", 3)
@@ -10,6 +10,8 @@ Refused.
     NoMember(n=2)
     >>> kernelhop.reachable(["RSRS", "S", "SRSS"], "R"), kernelhop.reachable(["SR"], "R")
     (True, False)
+    >>> kernelhop.verdict(["SR", "RS"], ""), kernelhop.reachable(["SR"], "")
+    (Member(factors=(0, 0, 1, 0, 0, 1)), False)
     >>> kernelhop.subgroup_verdict(["SR", "SSR"], "SS")
     <SubgroupMember by 0 1^-1>
     >>> kernelhop.reduce("SRRSSSSR")
@@ -95,8 +97,8 @@ LARGEST_BOUND = 1000
 # The largest number of 16 bits.
 LARGEST_SHORT = 65535
 
-# The first release that this module can call: an older library's reduction goes by the same name and says nothing of pairs and triples.
-OLDEST_RELEASE = 10500
+# The first release that answers as this module says: in an older library an empty target is a member of no factors, for every list.
+OLDEST_RELEASE = 10600
 
 
 class Refused(ValueError):
@@ -117,8 +119,8 @@ class Refused(ValueError):
 
 @dataclass(frozen=True)
 class Member:
-    """The target is the product of these generators, counted from 0, and of no fewer: of the series of that count the first when their numbers are compared
-    from left to right."""
+    """The target is the product of these generators, counted from 0, one or more, and of no fewer: of the series of that count the first when their numbers are
+    compared from left to right."""
 
     factors: tuple
 
@@ -155,8 +157,8 @@ class SignedFactor(NamedTuple):
 
 @dataclass(frozen=True, repr=False)
 class SubgroupMember:
-    """The target is the product of these signed factors, and of no fewer: of the series of that count the first when their numbers, as they are written, are
-    compared from left to right, so that every generator stands before every inverse. As text it is the factors."""
+    """The target is the product of these signed factors, one or more, and of no fewer: of the series of that count the first when their numbers, as they are
+    written, are compared from left to right, so that every generator stands before every inverse. As text it is the factors."""
 
     factors: tuple
     # The list as it was lent, and the inverse slice that its verdict wrote.
@@ -181,7 +183,7 @@ class SubgroupMember:
         return (inverses if part.inverse else letters)[part.start : part.end].decode("ascii")
 
     def __str__(self):
-        return " ".join(map(str, self.factors)) or "no factors"
+        return " ".join(map(str, self.factors))
 
     def __repr__(self):
         return f"<SubgroupMember by {self}>"
@@ -249,6 +251,7 @@ def word(a, b, c, d):
 def verdict(generators, target, n=LARGEST_BOUND):
     """Is the target a product of at most n of the generators? A Member, or NoMember. Asks questions 7 to 13.
 
+    A product has one factor or more, so with n 0 the answer is NoMember. An empty target, or one that vanishes, asks for a relation of the list.
     The generators are a list, or anything else that has words in an order. A factor is a generator's number in that order, so a set or a dict is refused.
     """
     letters, ends = _list(generators)
@@ -260,8 +263,8 @@ def subgroup_verdict(generators, target, n=LARGEST_BOUND):
     """Is the target a product of at most n factors, each of them a generator or the inverse of one? A SubgroupMember, or NoMember. Asks questions 7 to 13,
     those about the list of the given generators only.
 
-    So the list is taken as the subgroup that it generates, and no inverse has to be typed; each factor counts as one. The generators are as `verdict` takes
-    them.
+    So the list is taken as the subgroup that it generates, and no inverse has to be typed; each factor counts as one. A product has one factor or more: the
+    empty word is one of at most two, wherever there is a generator. The generators are as `verdict` takes them.
     """
     letters, ends = _list(generators)
     target = _letters(target)
@@ -276,8 +279,8 @@ def subgroup_verdict(generators, target, n=LARGEST_BOUND):
 def reachable(generators, target):
     """Is the target a product of the generators, of however many? True or False. Asks questions 7 to 12.
 
-    Factors are neither found nor counted, so what takes more of them than any n of `verdict` allows is True too. The empty word is the product of no factors:
-    True for every list. The generators are as `verdict` takes them.
+    Factors are neither found nor counted, so what takes more of them than any n of `verdict` allows is True too. A product has one factor or more: the empty
+    word is True exactly where the list has a relation. The generators are as `verdict` takes them.
     """
     letters, ends = _list(generators)
     target = _letters(target)

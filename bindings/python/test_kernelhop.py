@@ -146,8 +146,8 @@ class Verdicts(Case):
         self.assertEqual(found.count, 3)
         self.assertEqual(verdict(["RSRS", "S", "SRSS"], "R", 2), NoMember(2))
         self.assertEqual(verdict(["RS", "S"], "R", 3), Member((0, 1, 1)))
-        self.assertEqual(verdict(["SSS"], "", 5), Member(()))
-        self.assertEqual(verdict([], "", 0), Member(()))
+        self.assertEqual(verdict(["SSS"], "", 5), Member((0,)))
+        self.assertEqual(verdict([], "", 0), NoMember(0))
         self.assertEqual(verdict([], "R"), NoMember(1000))
         self.assertEqual(verdict(iter(["SR"]), "SR" * 40), Member((0,) * 40))
 
@@ -179,8 +179,8 @@ class Verdicts(Case):
         self.assertEqual(runs, ["".join(sorted(run)) for run in runs])
 
     def test_truth(self):
-        self.assertTrue(verdict([], "", 0))
-        self.assertFalse(verdict([], "R", 0))
+        self.assertTrue(verdict(["R"], "R", 1))
+        self.assertFalse(verdict(["R"], "R", 0))
 
     def test_largest_tables(self):
         self.assertEqual(verdict(["SR" * 40] * 4, "SR" * 40), Member((0,)))
@@ -254,10 +254,6 @@ class WithoutABound(Case):
             (["RS", "S"], "R"),
             (["SR", "RSS"], "RSSRSS"),
             (iter(["SR"]), "SR" * 40),
-            # the product of no factors, also of a list that has none
-            (["SR"], "RSSSR"),
-            (["SSS"], ""),
-            ([], ""),
         ]:
             self.assertIs(reachable(generators, target), True)
         for generators, target in [(["SR"], "R"), (["SR"], "RSS"), (["", "SSS"], "S"), ([], "R")]:
@@ -328,9 +324,6 @@ class Subgroups(Case):
             (["RS", "SR", "SRRR"], "RSSRSS", "1^-1 1^-1"),
             (["", "S", "RR", "S", ""], "SS", "1^-1"),
             (iter(["SR"]), "RSS" * 26, " ".join(["0^-1"] * 26)),
-            # the product of no factors, also of a list that has none
-            (["SR"], "RSSSR", "no factors"),
-            ([], "", "no factors"),
         ]:
             found = subgroup_verdict(generators, target)
             self.assertEqual(str(found), factors)
@@ -340,7 +333,6 @@ class Subgroups(Case):
 
     def test_a_bound_of_0(self):
         self.assertEqual(subgroup_verdict(["SR", "S"], "SR", 0), NoMember(0))
-        self.assertEqual(subgroup_verdict(["SR", "S"], "SSS", 0).factors, ())
 
     def test_a_long_series(self):
         """T to the 39th and to the 37th: 19 times 37 is 18 times 39 and 1 more. They may stand in any order."""
@@ -365,8 +357,8 @@ class Subgroups(Case):
                 _ = factor.written
 
     def test_truth(self):
-        self.assertTrue(subgroup_verdict([], "", 0))
-        self.assertFalse(subgroup_verdict([], "R", 0))
+        self.assertTrue(subgroup_verdict(["R"], "R", 1))
+        self.assertFalse(subgroup_verdict(["R"], "R", 0))
 
     def test_letters(self):
         """What is given is shown as it is given, and an inverse in its normal form."""
@@ -467,6 +459,53 @@ class Subgroups(Case):
                 (b"SR" * 161, [*range(80, 321, 80), 322]),
             ]:
                 self.assertEqual(asked(letters, ends, 640, number), (0, 0, 0))
+
+
+class Relations(Case):
+    """Products of one factor or more that equal the identity: an empty target asks for the first of the least."""
+
+    # The list, its first relation, and its first where inverses are factors too, as they are written.
+    LISTS = (
+        (["SSS"], (0,), (0,)),
+        (["R"], (0, 0), (0, 0)),
+        (["S"], (0, 0, 0), (0, 128)),
+        (["S", "SS"], (0, 1), (0, 1)),
+        # 2 2 and 3 3, since SRSS is its own inverse as R is; 0 1 2 3 has more factors
+        (["RSRS", "S", "SRSS", "R"], (2, 2), (0, 128)),
+        # T and the inverse of U: the first of eight
+        (["SR", "RS"], (0, 0, 1, 0, 0, 1), (0, 128)),
+        # an empty generator, and one that vanishes: of several the first
+        ([""], (0,), (0,)),
+        (["R", "RSSSR", ""], (1,), (1,)),
+        # no power of T is the identity
+        (["SR"], None, (0, 128)),
+        # a list without generators
+        ([], None, None),
+    )
+
+    def test_first(self):
+        for generators, plain, signed in self.LISTS:
+            for target in ("", "RSSSR"):
+                self.assertEqual(verdict(generators, target), NoMember(1000) if plain is None else Member(plain))
+                self.assertIs(reachable(generators, target), plain is not None)
+                found = subgroup_verdict(generators, target)
+                self.assertEqual(found.written if found else found, NoMember(1000) if signed is None else bytes(signed))
+
+    def test_bounds(self):
+        """The count is enough, and one factor less is none; so n 0 is none for every list."""
+        for generators, *firsts in self.LISTS:
+            for call, series in zip((verdict, subgroup_verdict), firsts):
+                self.assertEqual(call(generators, "", 0), NoMember(0))
+                if series is not None:
+                    self.assertEqual(call(generators, "", len(series)).count, len(series))
+                    self.assertEqual(call(generators, "", len(series) - 1), NoMember(len(series) - 1))
+
+    def test_cards(self):
+        """Without a target it is empty: the generator SSS, and no list; and the unit matrix is the same."""
+        unit = b"".join(entry.to_bytes(8, "little") for entry in (1, 0, 0, 1))
+        self.assertEqual(answer_card(b"\x08\x01\x03\x00SSS"), Member((0,)))
+        self.assertEqual(answer_card(b"\x0c" + unit + b"\x01\x03\x00SSS"), Member((0,)))
+        self.assertEqual(answer_card(b"\x00"), NoMember(1000))
 
 
 class Rooms(Case):
@@ -604,7 +643,7 @@ class Module(unittest.TestCase):
             self.assertIsNotNone(getattr(kernelhop, name).__doc__, name)
 
     def test_another_library(self):
-        """A folder without a library, a library without the calls, and one of an older release, whose reduction would be misread."""
+        """A folder without a library, a library without the calls, and one of an older release, which does not answer as the module says."""
         version = "unsigned kernelhop_version(void) { return %d; }"
         with tempfile.TemporaryDirectory() as folder:
             for source, text in [

@@ -136,9 +136,9 @@ pub struct Reduced {
 /// A verdict whose factors stand in the lent witness.
 #[derive(Clone, Copy, Debug, PartialEq, Eq)]
 pub enum Judged {
-    /// A member: by the factors whose numbers are the first `count` bytes of the witness, and by no fewer; of the series of that count they are the first
-    /// when their numbers are compared from left to right. A factor is a generator, and for `judge_subgroup` also the inverse of one, with a number from
-    /// `INVERSE` on.
+    /// A member: by the factors whose numbers are the first `count` bytes of the witness, one or more, and by no fewer; of the series of that count they are
+    /// the first when their numbers are compared from left to right. A factor is a generator, and for `judge_subgroup` also the inverse of one, with a number
+    /// from `INVERSE` on.
     Member { count: usize },
     /// No product of at most n factors is the target.
     None { n: u16 },
@@ -240,8 +240,8 @@ pub fn judge(
     })
 }
 
-/// The verdict without a bound: whether the target is a product of the list's generators, of however many. The empty word is the product of no factors: a yes for
-/// every list. Asks questions 7 to 12 and 15. No factors are written; of each table the first q * q entries are 0 afterwards, and the others are as they were.
+/// The verdict without a bound: whether the target is a product of the list's generators, of one or more, however many. Asks questions 7 to 12 and 15. No
+/// factors are written; of each table the first q * q entries are 0 afterwards, and the others are as they were.
 pub fn reachable(
     bytes: &[u8],
     ends: &[u16],

@@ -3,6 +3,8 @@
 //! Words are in the letters R and S, where RR and SSS vanish and no other rule holds. Each function takes anything whatever: it answers, or it refuses
 //! by a numbered question. `version()` says which release of the library answers.
 //!
+//! A product has one factor or more. So an empty target, or one that vanishes, asks for a relation: a product that equals the identity.
+//!
 //! Verdicts are worked out in two tables and a witness that each thread makes at its first verdict and keeps until it ends: up to 926,444 bytes a thread, and
 //! up to 3,945,196 once it has asked for a verdict on a subgroup. Who wants to say what memory is used lends it, by the calls of `lent`.
 //!
@@ -14,7 +16,11 @@
 //! assert_eq!(verdict(&["RSRS", "S", "SRSS"], "R", 2)?, Verdict::None { n: 2 });
 //! assert!(reachable(&["RSRS", "S", "SRSS"], "R")?);
 //!
-//! // With inverses as factors: T times U to the -1st, where T is SR and U is SSR.
+//! // A relation: of T and the inverse of U, where T is SR and U is SSR. T alone has none.
+//! assert_eq!(verdict(&["SR", "RS"], "", 1000)?, Verdict::Member { factors: vec![0, 0, 1, 0, 0, 1] });
+//! assert!(!reachable(&["SR"], "")?);
+//!
+//! // With inverses as factors: T times U to the -1st.
 //! let SubgroupVerdict::Member(found) = subgroup_verdict(&["SR", "SSR"], "SS", 1000)? else {
 //!     panic!("none");
 //! };
@@ -45,8 +51,8 @@ use room::Room;
 /// Whether the target is a product of at most n generators.
 #[derive(Clone, Debug, PartialEq, Eq)]
 pub enum Verdict {
-    /// It is: by these generators, counted from 0, and by no fewer; of the series of that count they are the first when their numbers are compared from left
-    /// to right.
+    /// It is: by these generators, counted from 0, one or more, and by no fewer; of the series of that count they are the first when their numbers are compared
+    /// from left to right.
     Member { factors: Vec<usize> },
     /// It is not.
     None { n: u16 },
@@ -88,7 +94,7 @@ fn text(letters: &[u8]) -> String {
     letters.iter().map(|&letter| char::from(letter)).collect()
 }
 
-/// The release of the library that answers, such as `1.5.0`.
+/// The release of the library that answers, such as `1.6.0`.
 pub fn version() -> String {
     let release = lent::version();
     format!(
@@ -164,7 +170,7 @@ fn joined(generators: &[impl AsRef<[u8]>]) -> (Vec<u8>, Vec<u16>) {
     (bytes, ends)
 }
 
-/// Is the target a product of at most n of the generators? Asks questions 7 to 13.
+/// Is the target a product of at most n of the generators? A product has one factor or more: with n 0 the answer is none. Asks questions 7 to 13.
 pub fn verdict(
     generators: &[impl AsRef<[u8]>],
     target: impl AsRef<[u8]>,
@@ -186,7 +192,7 @@ pub fn verdict(
 }
 
 /// Is the target a product of the generators, of however many? Factors are neither found nor counted, so what takes more of them than any n of `verdict` allows
-/// is a yes too. The empty word is the product of no factors: a yes for every list. Asks questions 7 to 12.
+/// is a yes too. A product has one factor or more: the empty word is a yes exactly where the list has a relation. Asks questions 7 to 12.
 pub fn reachable(
     generators: &[impl AsRef<[u8]>],
     target: impl AsRef<[u8]>,
@@ -197,7 +203,8 @@ pub fn reachable(
 }
 
 /// Is the target a product of at most n factors, each of them a generator or the inverse of one? So the list is taken as the subgroup that it generates, and no
-/// inverse has to be typed; each factor counts as one. Asks questions 7 to 13, those about the list of the given generators only.
+/// inverse has to be typed; each factor counts as one. A product has one factor or more: the empty word is one of at most two, wherever there is a generator.
+/// Asks questions 7 to 13, those about the list of the given generators only.
 pub fn subgroup_verdict(
     generators: &[impl AsRef<[u8]>],
     target: impl AsRef<[u8]>,

@@ -66,8 +66,8 @@ pub struct SubgroupMember {
 }
 
 impl SubgroupMember {
-    /// The target is the product of these, and of no fewer; of the series of that count they are the first when the numbers by which they are written are
-    /// compared from left to right.
+    /// The target is the product of these, one or more, and of no fewer; of the series of that count they are the first when the numbers by which they are
+    /// written are compared from left to right.
     pub fn factors(&self) -> &[SignedFactor] {
         &self.factors
     }

@@ -122,8 +122,8 @@ fn verdicts() {
         verdict(&["RS", "S"], "R", 2).unwrap(),
         Verdict::None { n: 2 }
     );
-    assert_eq!(verdict(&["SSS"], "", 5).unwrap(), member(&[]));
-    assert_eq!(verdict(&[""; 0], "", 0).unwrap(), member(&[]));
+    assert_eq!(verdict(&["SSS"], "", 5).unwrap(), member(&[0]));
+    assert_eq!(verdict(&[""; 0], "", 0).unwrap(), Verdict::None { n: 0 });
     assert_eq!(
         verdict(&[""; 0], "R", 1000).unwrap(),
         Verdict::None { n: 1000 }
@@ -152,6 +152,29 @@ fn the_first_of_the_least() {
     let powers = ["SR".repeat(17), "RSS".repeat(13)];
     let factors = [vec![0; 10], vec![1; 13]].concat();
     assert_eq!(verdict(&powers, "SR", 1000).unwrap(), member(&factors));
+}
+
+/// Products of one factor or more that equal the identity: an empty target asks for the first of the least.
+#[test]
+fn relations() {
+    let first = |list: &[&str], target| verdict(list, target, 1000).unwrap();
+    let none = |list: &[&str], n| verdict(list, "", n) == Ok(Verdict::None { n });
+    assert_eq!(first(&["SSS"], ""), member(&[0]));
+    assert_eq!(first(&["R"], ""), member(&[0, 0]));
+    assert_eq!(first(&["S"], ""), member(&[0, 0, 0]));
+    assert_eq!(first(&["S", "SS"], ""), member(&[0, 1]));
+    assert_eq!(first(&["S", "SS"], "RSSSR"), member(&[0, 1]));
+    // 2 2 and 3 3, since SRSS is its own inverse as R is; 0 1 2 3 has more factors.
+    assert_eq!(first(&["RSRS", "S", "SRSS", "R"], ""), member(&[2, 2]));
+    // T and the inverse of U: the first of eight.
+    assert_eq!(first(&["SR", "RS"], ""), member(&[0, 0, 1, 0, 0, 1]));
+    assert!(none(&["SR", "RS"], 5));
+    // An empty generator, and one that vanishes: of several the first.
+    assert_eq!(first(&[""], ""), member(&[0]));
+    assert_eq!(first(&["R", "RSSSR", ""], ""), member(&[1]));
+    // With n 0 there is no product, nor is there one of a list that has no generators; and no power of T is the identity.
+    assert!(none(&["SSS"], 0) && none(&[""], 0) && none(&["R"], 1));
+    assert!(none(&[], 1000) && none(&["SR"], 1000));
 }
 
 /// T to the 37th and the -26th, and U to the 24th and the -37th between powers of T: 972 factors make U. They are 33 runs of T's powers, in each the 37th
@@ -195,11 +218,19 @@ fn without_a_bound() {
     assert_eq!(reachable(&["SR"], "R"), Ok(false));
     assert_eq!(reachable(&["SR"], "RSS"), Ok(false));
     assert_eq!(reachable(&["", "SSS"], "S"), Ok(false));
-    // The product of no factors, also of a list that has none.
-    assert_eq!(reachable(&["SR"], "RSSSR"), Ok(true));
-    assert_eq!(reachable(&["SSS"], ""), Ok(true));
-    assert_eq!(reachable(&[""; 0], ""), Ok(true));
     assert_eq!(reachable(&[""; 0], "R"), Ok(false));
+}
+
+/// No power of T is a relation, and there is none of a list that has no generators.
+#[test]
+fn relations_without_a_bound() {
+    assert_eq!(reachable(&["SSS"], ""), Ok(true));
+    assert_eq!(reachable(&["R"], ""), Ok(true));
+    assert_eq!(reachable(&["S", "SS"], "RSSSR"), Ok(true));
+    assert_eq!(reachable(&["RSRS", "S", "SRSS", "R"], ""), Ok(true));
+    assert_eq!(reachable(&["SR", ""], ""), Ok(true));
+    assert_eq!(reachable(&["SR"], "RSSSR"), Ok(false));
+    assert_eq!(reachable(&[""; 0], ""), Ok(false));
 }
 
 /// T to the 37th and the -26th, and T to the -1st before U to the 25th and the -34th: 1,217 factors make U, and no fewer.
@@ -291,7 +322,6 @@ fn subgroups() {
     assert_eq!(shown(&["RS", "SR", "SRRR"], "RSSRSS"), "1^-1 1^-1");
     assert_eq!(shown(&["", "S", "RR", "S", ""], "SS"), "1^-1");
     // A list without generators, and a bound of 0.
-    assert_eq!(shown(&[], "RSSSR"), "");
     assert_eq!(
         subgroup_verdict(&[""; 0], "R", 1000),
         Ok(SubgroupVerdict::None { n: 1000 })
@@ -300,11 +330,23 @@ fn subgroups() {
         subgroup_verdict(&["SR", "S"], "SR", 0),
         Ok(SubgroupVerdict::None { n: 0 })
     );
-    assert_eq!(
-        subgroup_verdict(&["SR", "S"], "SSS", 0),
-        Ok(SubgroupVerdict::Member(in_subgroup(&["SR", "S"], "")))
-    );
     assert_eq!(in_subgroup(&[b"SR"], b"RSS").written(), [128]);
+}
+
+/// A generator and its inverse are a relation of every list that has one.
+#[test]
+fn relations_of_subgroups() {
+    assert_eq!(shown(&["SR"], ""), "0 0^-1");
+    assert_eq!(shown(&["RSRS", "S", "SRSS", "R"], "RSSSR"), "0 0^-1");
+    // The inverse stands in the list.
+    assert_eq!(shown(&["R"], ""), "0 0");
+    assert_eq!(shown(&["S", "SS"], ""), "0 1");
+    // A generator that vanishes, and an empty one.
+    assert_eq!(shown(&["SSS"], ""), "0");
+    assert_eq!(shown(&["R", ""], ""), "1");
+    // With n 0 there is no product, nor is there one of a list that has no generators.
+    let none = |list: &[&str], n| subgroup_verdict(list, "", n) == Ok(SubgroupVerdict::None { n });
+    assert!(none(&["SSS"], 0) && none(&["SR"], 1) && none(&[], 1000));
 }
 
 /// T to the 39th and to the 37th: 19 times 37 is 18 times 39 and 1 more. They may stand in any order, and every generator stands before every inverse.
@@ -415,6 +457,9 @@ fn cards() {
         answer_card(b"\x03\x02\x00\x01\x00R").unwrap(),
         Verdict::None { n: 2 }
     );
+    // Without a target it is empty: the generator SSS, and no list.
+    assert_eq!(answer_card(b"\x08\x01\x03\x00SSS").unwrap(), member(&[0]));
+    assert_eq!(answer_card(b"\x00").unwrap(), Verdict::None { n: 1000 });
 }
 
 /// A long series in the room that the thread keeps, then a short one, then a refusal, and the first again.
@@ -606,7 +651,7 @@ fn lent_slices_without_a_bound() {
     );
     assert_eq!(
         lent::reachable(b"", &[], b"", &mut first, &mut second),
-        Ok(true)
+        Ok(false)
     );
     assert_eq!((first, second), ([0], [0]));
 }
