@@ -1,5 +1,5 @@
-"""A model of document 01, "Bounded products in the modular group", and of 02's change requests so far (M-100, M-101, M-103, M-104; M-102 asks for nothing
-that a caller sees), written from their sentences alone and sharing nothing with the engine.
+"""A model of document 01, "Bounded products in the modular group", and of 02's change requests so far (M-100, M-101, M-103, M-104, M-105; M-102 asks for
+nothing that a caller sees), written from their sentences alone and sharing nothing with the engine.
 
 It is slow and plain on purpose. A word is reduced by erasing, a pair or a triple at a time, and each is counted; a matrix has unlimited integers, the word of
 a matrix is read off the Stern-Brocot tree, and a verdict comes from a walk of the group, product by product; one without a bound comes from an automaton that
@@ -125,12 +125,13 @@ class TooLarge(Exception):
 
 
 def first_series(generators, target, n, group=BY_RULES, cap=200_000):
-    """Of the series of the least number of factors, at most n, that multiply to the target the first when generator numbers are compared from left to
-    right; None if there is none.
+    """Of the series of the least number of factors, one or more and at most n, that multiply to the target the first when generator numbers are compared from
+    left to right; None if there is none.
 
     Level k holds the elements that k factors make and no fewer, each with its first series, in the order of these. A first series without its last factor is
     the first of its own product: an earlier one of as many factors would make an earlier one of the whole. So the elements of a level are met, from those of
-    the level before in their order and from the factors in theirs, in the order of their first series, and each for the first time by its own.
+    the level before in their order and from the factors in theirs, in the order of their first series, and each for the first time by its own. The walk sets
+    out from the identity, which no factor has made by then: it is met like any other element.
     """
     return walk(enumerate(generators), target, n, group, cap)
 
@@ -138,11 +139,9 @@ def first_series(generators, target, n, group=BY_RULES, cap=200_000):
 def walk(numbered, target, n, group, cap):
     """The first series of factors that are given by their numbers, in rising order, and their words."""
     element, times = group
-    one, goal = element(b""), element(target)
+    goal = element(target)
     factors = [(number, element(word)) for number, word in numbered]
-    if goal == one:
-        return []
-    seen, level = {one}, [(one, [])]
+    seen, level = set(), [(element(b""), [])]
     for _ in range(n):
         longer = []
         for before, series in level:
@@ -178,16 +177,22 @@ def first_signed_series(generators, target, n, group=BY_RULES, cap=200_000):
     return walk(signed_words(generators).items(), target, n, group, cap)
 
 
+# The state where each factor ends and the next begins, and the one where the first begins.
+HUB, START = 0, 1
+
+
 def loops(generators):
-    """Of each letter the moves from state to state: one loop at state 0, the hub, for each generator, spelled by its letters as they are given. And the number
-    of states."""
-    moves, states = {82: {}, 83: {}}, 1
+    """Of each letter the moves from state to state: one loop at the hub for each generator, spelled by its letters as they are given. The start has the hub's
+    moves, and none leads to it. And the number of states."""
+    moves, states = {82: {}, 83: {}}, 2
     for generator in generators:
-        here = 0
+        here = HUB
         for place, letter in enumerate(generator, start=1):
-            there = states if place < len(generator) else 0
+            there = states if place < len(generator) else HUB
             moves[letter].setdefault(here, []).append(there)
             here, states = there, max(states, there + 1)
+    for by_letter in moves.values():
+        by_letter[START] = by_letter.get(HUB, [])
     return moves, states
 
 
@@ -203,15 +208,18 @@ def union(sets):
 
 
 def is_product(generators, target, cap=200_000):
-    """Is the target the product of some series, however long?
+    """Is the target the product of some series of one factor or more, however long?
 
-    Read from hub to hub, the loops spell the series' letters, one behind the other. Wherever RR or SSS can be read from p to q, with empty moves anywhere, an
-    empty move from p to q is added, and one for each two empty moves in a row, until nothing changes. An empty move stands for letters that vanish, so a word
-    that is read from hub to hub equals a product. And a series' letters can still be read from hub to hub after each RR and each SSS that is erased from
-    them, down to their normal form. A set of states is a number with their bits set.
+    Read from the start to the hub, the loops spell the letters of a series, one behind the other; of one factor or more, for the start is not the hub. An empty
+    generator is a factor too: an empty move from the start to the hub. Wherever RR or SSS can be read from p to q, with empty moves anywhere, an empty move
+    from p to q is added, and one for each two empty moves in a row, until nothing changes. An empty move stands for letters that vanish, so a word that is read
+    from the start to the hub equals a product. And a series' letters can still be read from the start to the hub after each RR and each SSS that is erased
+    from them, down to their normal form. A set of states is a number with their bits set.
     """
     moves, states = loops(generators)
     empty = [1 << state for state in range(states)]
+    if b"" in generators:
+        empty[START] |= 1 << HUB
 
     def read(here, word):
         """Where the word leads from these states, with the empty moves so far behind each letter."""
@@ -230,7 +238,7 @@ def is_product(generators, target, cap=200_000):
         for between, state in itertools.product(range(states), repeat=2):
             if empty[state] >> between & 1:
                 empty[state] |= empty[between]
-    return read(empty[0], normal_form(target)) & 1 == 1
+    return read(empty[START], normal_form(target)) >> HUB & 1 == 1
 
 
 # ---- the questions at the door

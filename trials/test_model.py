@@ -1,6 +1,6 @@
 #!/usr/bin/env python3
-"""Tests of trials/model.py: document 01's worked values P1 to P12 and edges, the laws that its ways of computing rest on, the pairs and triples that are
-erased, the first of the least series, verdicts without a bound, lists taken as subgroups, and each question."""
+"""Tests of trials/model.py: the worked values P1 to P12 of document 01, as 02 leaves them, and its edges, the laws that its ways of computing rest on, the
+pairs and triples that are erased, the first of the least series, verdicts without a bound, lists taken as subgroups, relations, and each question."""
 
 import itertools
 import os
@@ -41,12 +41,12 @@ def in_subgroup(generators, target, n=1000):
 
 
 def all_least(words, target, n):
-    """All series of the least number of factors that multiply to the target, from all series in rising length, those of one length in their order. The factors
-    are a list of words, or words by their numbers."""
+    """All series of the least number of factors that multiply to the target, from all series of one factor or more in rising length, those of one length in
+    their order. The factors are a list of words, or words by their numbers."""
     if not isinstance(words, dict):
         words = dict(enumerate(words))
     form = model.normal_form(target)
-    for count in range(n + 1):
+    for count in range(1, n + 1):
         all_series = itertools.product(sorted(words), repeat=count)
         reaching = [list(s) for s in all_series if model.normal_form(b"".join(words[i] for i in s)) == form]
         if reaching:
@@ -73,13 +73,13 @@ class WorkedValues(unittest.TestCase):
         self.assertEqual(model.word_of_matrix(U, 80), b"SSR")
 
     def test_p8_to_p12(self):
-        self.assertEqual(judged([], b"", 0), [])
+        self.assertIsNone(judged([], b"", 0))
         self.assertIsNone(judged([], b"R", 1000))
         self.assertEqual(judged([b"RS", b"S"], b"R", 3), [0, 1, 1])
         self.assertIsNone(judged([b"RS", b"S"], b"R", 2))
         self.assertEqual(judged([b"RSRS", b"S", b"SRSS"], b"R", 3), [0, 1, 2])
         self.assertIsNone(judged([b"RSRS", b"S", b"SRSS"], b"R", 2))
-        self.assertEqual(judged([b"SSS"], b"", 5), [])
+        self.assertEqual(judged([b"SSS"], b"", 5), [0])
 
     def test_worked_card(self):
         self.assertEqual(model.line(WORKED), "member 3 0 0 0")
@@ -232,15 +232,14 @@ class WithoutABound(unittest.TestCase):
             self.assertIs(reached(generators, target), answer, (generators, target))
 
     def test_worked(self):
-        self.assert_reached(True, [], b"")
-        self.assert_reached(False, [], b"R")
+        self.assert_reached(False, [], b"", b"R")
         self.assert_reached(True, [b"RS", b"S"], b"R")
         self.assert_reached(True, [b"RSRS", b"S", b"SRSS"], b"R")
         self.assert_reached(True, [b"SSS"], b"")
 
     def test_powers_of_t(self):
-        self.assert_reached(True, [b"SR"], b"", b"SR", b"SRSR", power_of_t(40))
-        self.assert_reached(False, [b"SR"], b"R", b"S", b"RSS", b"SSR", power_of_t(-26))
+        self.assert_reached(True, [b"SR"], b"SR", b"SRSR", power_of_t(40))
+        self.assert_reached(False, [b"SR"], b"", b"R", b"S", b"RSS", b"SSR", power_of_t(-26))
         self.assert_reached(True, [b"SR", b"RSS"], *map(power_of_t, range(-26, 41)))
         self.assert_reached(False, [b"SR", b"RSS"], b"R", b"S", b"SSR")
         self.assert_reached(True, [power_of_t(4), power_of_t(6), power_of_t(-10)], *map(power_of_t, range(-26, 41, 2)))
@@ -266,7 +265,7 @@ class WithoutABound(unittest.TestCase):
         self.assert_reached(True, list_of_u[:2], b"SR", b"RSS")
 
     def test_a_finite_group(self):
-        """In the group of order 3 that S makes, and in its conjugate by R, a series that reaches is not longer than 2."""
+        """In the group of order 3 that S makes, and in its conjugate by R, a series that reaches is not longer than 3."""
         for by in (b"", b"R"):
             for target in words(6):
                 inside = model.normal_form(by + target + by) in (b"", b"S", b"SS")
@@ -291,7 +290,7 @@ class WithoutABound(unittest.TestCase):
         choices = words(4)
         for _ in range(200):
             generators = chance.choices(choices, k=chance.randint(1, 3))
-            product = model.normal_form(b"".join(chance.choices(generators, k=chance.randint(0, 20))))
+            product = model.normal_form(b"".join(chance.choices(generators, k=chance.randint(1, 20))))
             self.assertTrue(model.is_product(generators, product))
             target, more, by = (chance.choice(choices) for _ in range(3))
             answer = model.is_product(generators, target)
@@ -320,8 +319,6 @@ class Subgroups(unittest.TestCase):
             # equal generators, as written and by the rules, and empty ones
             ([b"RS", b"SR", b"SRRR"], b"RSSRSS", [129, 129]),
             ([b"", b"S", b"RR", b"S", b""], b"SS", [129]),
-            # a list without generators
-            ([], b"RSSSR", []),
             # powers of T, whose series may stand in any order
             ([power_of_t(5), power_of_t(3)], power_of_t(1), [1, 1, 128]),
             ([power_of_t(5), power_of_t(3)], power_of_t(-1), [0, 129, 129]),
@@ -330,7 +327,6 @@ class Subgroups(unittest.TestCase):
             self.assertEqual(in_subgroup(generators, target), series)
         self.assertIsNone(in_subgroup([], b"R"))
         self.assertIsNone(in_subgroup([b"S", b"R"], b"S", 0))
-        self.assertEqual(in_subgroup([b"S", b"R"], b"SSS", 0), [])
         self.assertIsNone(in_subgroup([b"SR"], b"RSS", 0))
         self.assertEqual(in_subgroup([b"SR"], (1, -1, 0, 1)), [128])
 
@@ -381,10 +377,10 @@ class Subgroups(unittest.TestCase):
             self.assertLessEqual(least, count(generators, target, judged))
 
     def test_a_finite_group(self):
-        """The group of order 3 that S makes: one factor is enough for each of its elements."""
+        """The group of order 3 that S makes: one factor is enough for each of its elements, but the identity, which takes a generator and its inverse."""
         for target in words(6):
             form = model.normal_form(target)
-            expected = {b"": [], b"S": [0], b"SS": [128]}.get(form)
+            expected = {b"": [0, 128], b"S": [0], b"SS": [128]}.get(form)
             self.assertEqual(in_subgroup([b"S"], target), expected)
 
     def test_lengths_of_inverses(self):
@@ -400,6 +396,79 @@ class Subgroups(unittest.TestCase):
     def test_a_walk_that_is_too_large(self):
         with self.assertRaises(model.TooLarge):
             model.first_signed_series([b"SRSR", b"SSRSSR"], b"R", 1000, cap=1000)
+
+
+class Relations(unittest.TestCase):
+    """Products of one factor or more that equal the identity: an empty target asks for the first of the least."""
+
+    # The list, its first relation, and its first where inverses are factors too.
+    LISTS = (
+        ([b"SSS"], [0], [0]),
+        ([b"R"], [0, 0], [0, 0]),
+        ([b"S"], [0, 0, 0], [0, 128]),
+        ([b"S", b"SS"], [0, 1], [0, 1]),
+        # SRSS is R conjugated, and so its own inverse, as R is: 2 2 stands before 3 3
+        ([b"RSRS", b"S", b"SRSS", b"R"], [2, 2], [0, 128]),
+        # T and the inverse of U: TT times the inverse of U is SRSS, which is its own inverse
+        ([b"SR", b"RS"], [0, 0, 1, 0, 0, 1], [0, 128]),
+        # no power of T is the identity but the 0th
+        ([b"SR"], None, [0, 128]),
+        # an empty generator, and one that vanishes: of several the first
+        ([b""], [0], [0]),
+        ([b"R", b""], [1], [1]),
+        ([b"SR", b"RSSSR", b"S", b""], [1], [1]),
+        # a list without generators
+        ([], None, None),
+    )
+    # The empty target, as a word, as one that vanishes, and as a matrix of either sign.
+    TARGETS = (b"", b"RSSSR", model.UNIT, (-1, 0, 0, -1))
+
+    def test_worked(self):
+        for (generators, plain, signed), target in itertools.product(self.LISTS, self.TARGETS):
+            self.assertEqual(judged(generators, target, 1000), plain, (generators, target))
+            self.assertEqual(in_subgroup(generators, target), signed, (generators, target))
+            self.assertIs(reached(generators, target), plain is not None, (generators, target))
+
+    def test_bounds(self):
+        """The count is enough, and one factor less is none; so n 0 is none for every list."""
+        for generators, plain, signed in self.LISTS:
+            for call, series in ((judged, plain), (in_subgroup, signed)):
+                self.assertIsNone(call(generators, b"", 0), generators)
+                if series is not None:
+                    self.assertEqual(call(generators, b"", len(series)), series, generators)
+                    self.assertIsNone(call(generators, b"", len(series) - 1), generators)
+
+    def test_by_all_series(self):
+        """Of every list of up to 2 words, by rules and by matrices, without inverses and with them."""
+        for count in range(3):
+            for generators in itertools.product(words(3), repeat=count):
+                for n, factors, first in ((6, dict(enumerate(generators)), model.first_series), (3, model.signed_words(generators), model.first_signed_series)):
+                    expected = min(all_least(factors, b"", n), default=None)
+                    for group in (model.BY_RULES, model.BY_MATRICES):
+                        self.assertEqual(first(generators, b"", n, group), expected, (generators, n))
+
+    def test_turned_round(self):
+        """A relation that is turned round, its first factors put behind its last, is one too: so none of these stands before the first."""
+        chance = random.Random(8)
+        choices = [word for word in words(5) if model.normal_form(word)]
+        found = 0
+        for _ in range(200):
+            series = judged(chance.choices(choices, k=chance.randint(1, 4)), b"", 5)
+            if series is not None:
+                found += len(series) > 2
+                self.assertEqual(min(series[at:] + series[:at] for at in range(len(series))), series)
+        self.assertGreater(found, 20)
+
+    def test_signed(self):
+        """Wherever there is a generator: the first that vanishes, or generator 0 and its inverse, which the list may have or not."""
+        chance = random.Random(9)
+        choices = words(4)
+        for _ in range(300):
+            generators = chance.choices(choices, k=chance.randint(1, 4))
+            forms = list(map(model.normal_form, generators))
+            inverse = model.normal_form(model.inverse(generators[0]))
+            expected = [forms.index(b"")] if b"" in forms else [0, forms.index(inverse) if inverse in forms else 128]
+            self.assertEqual(in_subgroup(generators, b""), expected, generators)
 
 
 class Parts(unittest.TestCase):
@@ -550,7 +619,8 @@ class Questions(Asking):
             (WORKED + b"\0\0", "refused 4 16"),
             (matrix[:-1], "refused 3 32"),
             (matrix, "refused 5 1"),
-            (b"\0", "member 0"),
+            (b"\0", "none 1000"),
+            (b"\x08\x01\x03\0SSS", "member 1 0"),
             (b"\x02\x01\0R", "none 1000"),
             (b"\x01\xe9\x03", "refused 13 0"),
             (b"\x0a\x01\0R\x02\x01\0R\x01\0R", "member 1 0"),

@@ -388,7 +388,9 @@ fn path(target: &[u8], tree: &Tree, n: u16, table: &[u16], rows: &mut [u16]) {
     }
 }
 
-/// The verdict on a target whose form is not empty. The rows stand where the choices will; only where there is a series they are carried behind the pairs.
+/// What stands at the end of the last row decides: of an empty target that is the pair of the empty word with itself, which has the least count of one factor
+/// or more. The rows stand where the choices will; only where there is a series they are carried behind the pairs, without row 0, which is the first row of the
+/// pairs.
 fn search(
     query: &Query,
     n: u16,
@@ -408,8 +410,9 @@ fn search(
     let Some(witness) = witness else {
         return Verdict::Member(least);
     };
-    behind[..rows.len()].copy_from_slice(rows);
-    let entries = pairs.len() + rows.len();
+    let later = &rows[tree.count..];
+    behind[..later.len()].copy_from_slice(later);
+    let entries = pairs.len() + later.len();
     let counts = Counts {
         target: form,
         tree: &tree,
@@ -438,11 +441,7 @@ fn settle(
     witness: Option<&mut [u8]>,
     room: usize,
 ) -> Verdict {
-    let verdict = if query.form().is_empty() {
-        Verdict::Member(0)
-    } else {
-        search(query, n, first, second, witness)
-    };
+    let verdict = search(query, n, first, second, witness);
     first[..room].fill(0);
     second[..room].fill(0);
     verdict

@@ -19,7 +19,7 @@ fn close(tree: &Tree, table: &mut [u16]) {
     }
 }
 
-/// Whether a target whose form is not empty is a product.
+/// Whether the target is a product.
 fn decide(query: &Query, first: &mut [u16], second: &mut [u16]) -> bool {
     let (tree, form) = (query.tree(), query.form());
     let pairs = &mut first[..tree.count * tree.count];
@@ -38,7 +38,7 @@ pub fn reachable(
 ) -> Result<bool, Refusal> {
     let query = pose(bytes, ends, target)?;
     let room = query.room(first, second)?;
-    let yes = query.form().is_empty() || decide(&query, first, second);
+    let yes = decide(&query, first, second);
     first[..room].fill(0);
     second[..room].fill(0);
     Ok(yes)

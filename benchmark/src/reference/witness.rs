@@ -19,7 +19,8 @@ enum Parts {
     Two(Item, Item),
 }
 
-/// The counts, and what they are counts of: a row for each node of the tree, which are the pairs, and behind them the rows of the target.
+/// The counts, and what they are counts of: a row for each node of the tree, which are the pairs, and behind them the rows of the target, one for each letter.
+/// The row before the letters is row 0, the pairs of the empty word.
 pub struct Counts<'a> {
     pub target: &'a [u8],
     pub tree: &'a Tree,
@@ -28,7 +29,16 @@ pub struct Counts<'a> {
 
 impl Counts<'_> {
     fn rows(&self) -> usize {
-        self.tree.count + self.target.len() + 1
+        self.tree.count + self.target.len()
+    }
+
+    /// The row of the whole target.
+    fn last(&self) -> usize {
+        if self.target.is_empty() {
+            0
+        } else {
+            self.rows() - 1
+        }
     }
 
     fn at(&self, x: usize, y: usize) -> u16 {
@@ -37,7 +47,16 @@ impl Counts<'_> {
 
     /// The letter that leads to row x of the target from the row before it.
     fn letter_before(&self, x: usize) -> u8 {
-        self.target[x - self.tree.count - 1]
+        self.target[x - self.tree.count]
+    }
+
+    /// The row before row x of the target.
+    fn row_before(&self, x: usize) -> usize {
+        if x == self.tree.count {
+            0
+        } else {
+            x - 1
+        }
     }
 
     /// The pair that is the same element as (x, y), where x is not 0. The first letter falls away where both have it; else the letters that x begins with are
@@ -60,14 +79,11 @@ impl Counts<'_> {
 
     /// An entry that has the same series: where there is one nothing is to be chosen. Row x is not row 0.
     fn same(&self, x: usize, y: usize) -> Option<Item> {
-        let width = self.tree.count;
-        if x < width {
+        if x < self.tree.count {
             self.same_pair(x, y)
-        } else if x == width {
-            Some(Item::Entry(0, y))
         } else {
             let child = self.tree.child(self.letter_before(x), y)?;
-            Some(Item::Entry(x - 1, child))
+            Some(Item::Entry(self.row_before(x), child))
         }
     }
 
@@ -92,9 +108,12 @@ impl Counts<'_> {
         if let Some(same) = self.same(x, y) {
             return Parts::One(same);
         }
-        if x > width {
+        if x >= width {
             let child = self.tree.children(self.letter_before(x))[way];
-            return Parts::Two(Item::Entry(x - 1, child as usize), Item::Entry(way, y));
+            return Parts::Two(
+                Item::Entry(self.row_before(x), child as usize),
+                Item::Entry(way, y),
+            );
         }
         if way < width {
             return Parts::Two(Item::Entry(x, way), Item::Entry(way, y));
@@ -109,13 +128,12 @@ impl Counts<'_> {
 
     /// Shows each way of an entry whose parts have as many factors together as the entry says.
     fn candidates(&self, x: usize, y: usize, mut show: impl FnMut(usize, Parts)) {
-        let width = self.tree.count;
         if x == 0 {
             let j = self.first_factor(y);
             show(j, self.by_factor(y, j));
         } else if let Some(same) = self.same(x, y) {
             show(0, Parts::One(same));
-        } else if x > width {
+        } else if x >= self.tree.count {
             self.row_candidates(x, y, show);
         } else {
             self.candidates_over_nodes(x, y, &mut show);
@@ -137,11 +155,12 @@ impl Counts<'_> {
     /// A row of the target: the letter is read at v, and the pair (v, y) follows.
     fn row_candidates(&self, x: usize, y: usize, mut show: impl FnMut(usize, Parts)) {
         let k = self.at(x, y);
+        let before = self.row_before(x);
         let children = self.tree.children(self.letter_before(x));
         for (v, &child) in children[..self.tree.count].iter().enumerate() {
             let child = child as usize;
-            if child != 0 && self.at(x - 1, child) + self.at(v, y) == k {
-                show(v, Parts::Two(Item::Entry(x - 1, child), Item::Entry(v, y)));
+            if child != 0 && self.at(before, child) + self.at(v, y) == k {
+                show(v, Parts::Two(Item::Entry(before, child), Item::Entry(v, y)));
             }
         }
     }
@@ -393,7 +412,7 @@ fn spell(counts: &Counts, choices: &[u16], stack: &mut Stack, witness: &mut [u8]
 
 /// Writes the factors of the first of the least series, and answers how many they are. The choices are made in a table of the counts' size.
 pub fn write(counts: &Counts, choices: &mut [u16], witness: &mut [u8]) -> u16 {
-    let last = counts.rows() - 1;
+    let last = counts.last();
     let most = counts.at(last, 0);
     let (mut one, mut other) = (Stack::new(), Stack::new());
     choices.fill(IDLE);

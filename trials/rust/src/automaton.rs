@@ -1,11 +1,13 @@
-//! An automaton that reads the products of a list, of however many factors: one loop at a hub for each generator, closed under the rules.
+//! An automaton that reads the products of a list, of one factor or more: one loop at a hub for each generator, closed under the rules.
 
 /// A set of states, by their bits.
 type States = u64;
 
-const HUB: States = 1;
+/// The state where each factor ends and the next begins, and the one where the first begins.
+const HUB: usize = 0;
+const START: usize = 1;
 
-/// The moves from state to state. State 0 is the hub.
+/// The moves from state to state.
 pub struct Automaton {
     /// For each state where R leads from it, and where S does.
     letters: [Vec<States>; 2],
@@ -23,20 +25,27 @@ fn members(mut states: States) -> impl Iterator<Item = usize> {
 }
 
 impl Automaton {
-    /// The loops spell the generators' letters as they are given. Wherever RR or SSS can be read from p to q, with empty moves anywhere, there is an empty move
-    /// from p to q: it stands for letters that vanish. So a word that is read from hub to hub equals a product; and a product's letters can still be read after
-    /// each RR and each SSS that is erased from them, down to their normal form.
+    /// The loops spell the generators' letters as they are given. The start has the hub's moves, and none leads to it; an empty generator is an empty move from
+    /// it to the hub. Wherever RR or SSS can be read from p to q, with empty moves anywhere, there is an empty move from p to q: it stands for letters that
+    /// vanish. So a word that is read from the start to the hub equals a product of one factor or more; and a product's letters can still be read after each RR
+    /// and each SSS that is erased from them, down to their normal form.
     pub fn new(generators: &[&[u8]]) -> Automaton {
         let inner = generators.iter().map(|word| word.len().saturating_sub(1));
-        let states = 1 + inner.sum::<usize>();
+        let states = 2 + inner.sum::<usize>();
         assert!(states <= States::BITS as usize, "{states} states");
         let mut automaton = Automaton {
             letters: [(); 2].map(|()| vec![0; states]),
             empty: (0..states).map(|state| 1 << state).collect(),
         };
-        let mut unused = 1;
+        let mut unused = 2;
         for generator in generators {
             unused = automaton.add_loop(generator, unused);
+        }
+        for moves in &mut automaton.letters {
+            moves[START] = moves[HUB];
+        }
+        if generators.iter().any(|word| word.is_empty()) {
+            automaton.empty[START] |= 1 << HUB;
         }
         while automaton.add_empty_moves() {}
         automaton
@@ -44,11 +53,11 @@ impl Automaton {
 
     /// The loop of a generator, with inner states from `unused` on. The answer is the first state behind them.
     fn add_loop(&mut self, generator: &[u8], mut unused: usize) -> usize {
-        let mut here = 0;
+        let mut here = HUB;
         for place in 1..=generator.len() {
-            let there = if place < generator.len() { unused } else { 0 };
+            let there = if place < generator.len() { unused } else { HUB };
             self.letters[number(generator[place - 1])][here] |= 1 << there;
-            if there != 0 {
+            if there != HUB {
                 unused += 1;
             }
             here = there;
@@ -84,7 +93,7 @@ impl Automaton {
 
     /// Whether the word of a normal form is a product of the generators.
     pub fn reads(&self, form: &[u8]) -> bool {
-        self.read(HUB, form) & HUB != 0
+        self.read(1 << START, form) & (1 << HUB) != 0
     }
 }
 

@@ -61,8 +61,9 @@ fn is_right_without_a_bound(list: &List, target: &Word, expected: bool) -> bool 
 #[derive(Default)]
 struct Tried {
     lists: usize,
-    /// The calls whose target is a member, by the least number of factors.
-    members: [usize; BOUND as usize + 1],
+    /// The calls whose target is a member, by the least number of factors, from 1 on; and those of them whose target is empty or vanishes.
+    members: [usize; BOUND as usize],
+    relations: usize,
     none: usize,
     /// The calls without a bound, by no and yes.
     unbounded: [usize; 2],
@@ -80,7 +81,10 @@ impl Tried {
             for n in 0..=BOUND {
                 let first = first.filter(|series| series.len() <= usize::from(n));
                 match first {
-                    Some(series) => self.members[series.len()] += 1,
+                    Some(series) => {
+                        self.members[series.len() - 1] += 1;
+                        self.relations += usize::from(target.form.is_empty());
+                    }
                     None => self.none += 1,
                 }
                 if !is_right(&list, target, n, first) {
@@ -113,12 +117,13 @@ impl Tried {
         let calls = self.none + self.members.iter().sum::<usize>();
         let [no, yes] = self.unbounded;
         println!(
-            "lists of {generators}: {} tried, with {targets} targets and {} bounds each; {calls} calls, {} none, members by count {:?}; \
-             without a bound {} calls, {no} no, {yes} yes; {} differ",
+            "lists of {generators}: {} tried, with {targets} targets and {} bounds each; {calls} calls, {} none, members by count from 1 {:?}, \
+             {} of them relations; without a bound {} calls, {no} no, {yes} yes; {} differ",
             self.lists,
             BOUND + 1,
             self.none,
             self.members,
+            self.relations,
             no + yes,
             self.differ
         );

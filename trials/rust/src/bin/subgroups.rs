@@ -95,8 +95,9 @@ impl<'a> Subgroup<'a> {
 #[derive(Default)]
 struct Tried {
     lists: usize,
-    /// The calls whose target is a member, by the least number of factors.
-    members: [usize; BOUND as usize + 1],
+    /// The calls whose target is a member, by the least number of factors, from 1 on; and those of them whose target is empty or vanishes.
+    members: [usize; BOUND as usize],
+    relations: usize,
     none: usize,
     /// The members that have an inverse among their factors.
     signed: usize,
@@ -114,7 +115,8 @@ impl Tried {
                 let first = first.filter(|series| series.len() <= usize::from(n));
                 match first {
                     Some(series) => {
-                        self.members[series.len()] += 1;
+                        self.members[series.len() - 1] += 1;
+                        self.relations += usize::from(target.form.is_empty());
                         self.signed += usize::from(series.iter().any(|&factor| factor >= INVERSE));
                     }
                     None => self.none += 1,
@@ -143,11 +145,12 @@ impl Tried {
         let calls = self.none + self.members.iter().sum::<usize>();
         println!(
             "subgroups of {generators} generators of up to {letters} letters: {} tried, with {targets} targets and {} bounds each; {calls} calls, {} none, \
-             members by count {:?}, {} with an inverse; {} differ",
+             members by count from 1 {:?}, {} of them relations, {} with an inverse; {} differ",
             self.lists,
             BOUND + 1,
             self.none,
             self.members,
+            self.relations,
             self.signed,
             self.differ
         );
