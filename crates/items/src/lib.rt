@@ -81,16 +81,7 @@ pub fn parts(
             d,
         );
     }
-    rows::next_row(
-        target,
-        count,
-        children_r,
-        children_s,
-        x - 1 - count,
-        x,
-        y,
-        d,
-    )
+    rows::next_row(target, count, children_r, children_s, x - 1 - count, y, d)
 }
 
 // Are the parts tight at the item?

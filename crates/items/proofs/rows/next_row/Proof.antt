@@ -44,8 +44,8 @@ returns-3 c =
       eq-eqb _ _ (c .if3 .taken),
     ) refl
 
-add-t14 : tie.Need-add-t14
-add-t14 c = search needs
+add-t13 : tie.Need-add-t13
+add-t13 c = search needs
 
 returns-4 : tie.Need-returns-4
 returns-4 c =
@@ -73,5 +73,5 @@ next-row-spec =
     returns-2
     child-by-requires-2
     returns-3
-    add-t14
+    add-t13
     returns-4)

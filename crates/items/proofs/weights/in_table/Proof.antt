@@ -13,7 +13,7 @@ abbrev few : tie.Else4 → tie.Else2
 few c = c .before .before
 
 small : (c : tie.Else4) → few c .before .before .before .args .p * few c .before .before .before .args .count ≤ 8589672450
-small c = let a = few c .before .before .before .args in row-place (a .count) (a .letters) (a .p) (few c .before .if1 .left) (few c .if2 .left) (c .if4 .left)
+small c = let a = few c .before .before .before .args in row-place (a .count) (a .letters) (a .p) (few c .before .if1 .left) (few c .if2 .left) (omega (arith, c .if4 .left))
 
 returns : tie.Need-returns
 returns c = (rw (lt-ltb _ _ (c .if1 .taken)) refl, omega arith)
