@@ -1,0 +1,9 @@
+pub mod Every
+pub mod Arithmetic
+pub mod Numbering
+pub mod Images
+pub mod EveryImage
+pub mod Quick
+pub mod Inverses
+pub mod Multiplied
+pub mod Closing
