@@ -3,7 +3,7 @@ pub mod FirstOthers
 pub mod Passing
 mod Refusing
 mod NormalForms
-mod Behind
+pub mod Behind
 mod Forms
 mod Answering
 mod InverseForms

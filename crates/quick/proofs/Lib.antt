@@ -1,0 +1,8 @@
+pub mod Tables
+mod Walking
+mod Filling
+mod Marks
+mod Spreading
+mod TakingIn
+mod MarksDecide
+mod ByQuestions

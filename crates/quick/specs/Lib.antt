@@ -1,0 +1,4 @@
+pub mod Table
+pub mod Questions
+pub mod Calls
+pub mod Closing
