@@ -19,6 +19,8 @@ use Rattle.engine.specs.declared.Verdict.the-variants.{Member, None, Refused}
 use Rattle.subgroups.specs.declared.Part.{Part as subgroups·Part}
 use Rattle.reach.specs.declared.Reached.{Reached}
 use Rattle.reach.specs.declared.Reached.the-variants.{Yes, No, Refused as Reached·Refused}
+use Rattle.quick.specs.declared.Quick.{Quick}
+use Rattle.quick.specs.declared.Quick.the-variants.{No as Quick·No, Open, Refused as Quick·Refused}
 use Rattle.answers.specs.declared.Answer.{Answer}
 use Rattle.answers.specs.declared.Answer.the-variants.{Member as Answer·Member, None as Answer·None, Refused as Answer·Refused}
 use Rattle.kernelhop.specs.declared.Outcome.{Outcome}
@@ -75,6 +77,12 @@ abbrev pub ofReached : Reached → Outcome
 ofReached Yes = yes 1
 ofReached No = no 0
 ofReached (Reached·Refused refusal) = ofRefusal refusal
+
+-- the quick no: as none, with no n; open: 254, which is neither an answer's number nor that of none
+abbrev pub ofQuick : Quick → Outcome
+ofQuick Quick·No = no 0
+ofQuick Open = record { number = 254; value = 0 }
+ofQuick (Quick·Refused refusal) = ofRefusal refusal
 
 abbrev pub ofAnswer : Answer → Outcome
 ofAnswer (Answer·Member count) = yes (count .0)

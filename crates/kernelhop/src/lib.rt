@@ -19,13 +19,15 @@ ghost use Rattle.subgroups.specs.Calls.{JudgesSigned};
 ghost use Rattle.subgroups.specs.Parts.{partOf};
 ghost use Rattle.reach.specs.Calls.{Reaches};
 ghost use Rattle.reach.specs.declared.Reached.{Reached};
+ghost use Rattle.quick.specs.Calls.{Answers};
+ghost use Rattle.quick.specs.declared.Quick.{Quick};
 ghost use Rattle.answers.specs.declared.Answer.{Answer};
 ghost use Rattle.cards.specs.Calls.{AnswersCard};
 ghost use Rattle.kernelhop.specs.Release.{release};
-ghost use Rattle.kernelhop.specs.Outcome.{ofReduction, ofWritten, ofTested, ofTurned, entriesOr, ofVerdict, ofPart, ofReached, ofAnswer};
+ghost use Rattle.kernelhop.specs.Outcome.{ofReduction, ofWritten, ofTested, ofTurned, entriesOr, ofVerdict, ofPart, ofReached, ofQuick, ofAnswer};
 
 // An answer: 0, and the length written, 1 for a normal word and 0 for another, the count of a member, 1 for a target that is reachable, or 0 for a matrix.
-// None: 255, and n; not reachable: 255, and 0. A refusal: the question's number, from 1 to 16, and its place.
+// None: 255, and n; not reachable, or the quick no: 255, and 0; open: 254, and 0. A refusal: the question's number, from 1 to 16, and its place.
 #[repr(C)]
 pub struct Outcome {
     pub number: u8,
@@ -52,9 +54,9 @@ pub struct Part {
 // Which release this library is, as one number (`release` of specs/). It has its one home here, in the promise and in the code: whoever else needs it asks.
 #[no_mangle]
 pub extern "C" fn kernelhop_version() -> u32
-    ensures { λ r. ⌜ r ≡ release 1 6 0 ⌝ }
+    ensures { λ r. ⌜ r ≡ release 1 7 0 ⌝ }
 {
-    10_600
+    10_700
 }
 
 // The same as words::reduce.
@@ -203,6 +205,14 @@ pub extern "C" fn kernelhop_reachable(
         × (r ≡ ofReached v)) ⌝ }
 {
     telling::reached(reach::reachable(bytes, ends, target, first, second))
+}
+
+// The same as quick::quick_no.
+#[no_mangle]
+pub extern "C" fn kernelhop_quick_no(bytes: &[u8], ends: &[u16], target: &[u8]) -> Outcome
+    ensures { λ r. ⌜ ((q : Quick) × Answers (now (bytes .entry)) (now (ends .entry)) (now (target .entry)) q × (r ≡ ofQuick q)) ⌝ }
+{
+    telling::quick(quick::quick_no(bytes, ends, target))
 }
 
 // The same as cards::answer_card.

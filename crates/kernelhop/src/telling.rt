@@ -4,16 +4,20 @@ use crate::Part;
 use crate::Reduction;
 use answers::Answer;
 use engine::Verdict;
+use quick::Quick;
 use reach::Reached;
 use words::Factors;
 use words::Refusal;
 use words::Tested;
 use words::Written;
 ghost use mathlib.Core.Path.{_≡_};
-ghost use Rattle.kernelhop.specs.Outcome.{ofRefusal, ofReduction, ofWritten, ofTested, ofVerdict, ofPart, ofReached, ofAnswer};
+ghost use Rattle.kernelhop.specs.Outcome.{ofRefusal, ofReduction, ofWritten, ofTested, ofVerdict, ofPart, ofReached, ofQuick, ofAnswer};
 
 // The number that stands for none, and for a no: no question has it.
 const NONE: u8 = 255;
+
+// The number that stands for open, which is neither a yes nor a no.
+const OPEN: u8 = 254;
 
 // What is told for n where there is none.
 const NO_N: usize = 0;
@@ -122,6 +126,22 @@ pub(crate) fn reached(answer: Reached) -> Outcome
             value: NO_N,
         },
         Reached::Refused(why) => refusal(why),
+    }
+}
+
+pub(crate) fn quick(answer: Quick) -> Outcome
+    ensures { λ r. ⌜ r ≡ ofQuick answer ⌝ }
+{
+    match answer {
+        Quick::No => Outcome {
+            number: NONE,
+            value: NO_N,
+        },
+        Quick::Open => Outcome {
+            number: OPEN,
+            value: NO_N,
+        },
+        Quick::Refused(why) => refusal(why),
     }
 }
 

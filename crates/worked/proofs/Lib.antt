@@ -1,5 +1,6 @@
 pub mod Accounts
 pub mod Pairs
+pub mod Quick
 pub mod Refused
 pub mod Relations
 pub mod Signed
