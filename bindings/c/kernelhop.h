@@ -23,8 +23,10 @@ extern "C" {
 #endif
 
 /* number 0: an answer, and value says which (below, at each call).
-   number KERNELHOP_NONE: only from four calls. From kernelhop_judge, kernelhop_judge_subgroup and kernelhop_answer_card: no product of at most n factors
-   is the target; value is n. From kernelhop_reachable: no product is the target, of however many factors; value is 0.
+   number KERNELHOP_NONE: only from five calls. From kernelhop_judge, kernelhop_judge_subgroup and kernelhop_answer_card: no product of at most n factors
+   is the target; value is n. From kernelhop_reachable and kernelhop_quick_no: no product is the target, of however many factors; value is 0.
+   number KERNELHOP_OPEN: only from kernelhop_quick_no, which leaves open whether a product is the target; value is 0. It is not 0, so that nobody who
+   tests for 0 takes it for a yes.
    number 1 to 16: refused by that question; value is the place that it names, or 0. */
 struct kernelhop_outcome {
     uint8_t number;
@@ -33,6 +35,7 @@ struct kernelhop_outcome {
 
 enum {
     KERNELHOP_NONE = 255,
+    KERNELHOP_OPEN = 254,
     KERNELHOP_FORM = 80, /* room for the normal form of a matrix */
     KERNELHOP_SIDE = 481, /* the largest q of a verdict that questions 11 and 12 let pass */
     KERNELHOP_SIGNED_SIDE = 993, /* the same of kernelhop_judge_subgroup, whose q counts the inverses as well */
@@ -42,7 +45,7 @@ enum {
     KERNELHOP_STACK = 131072
 };
 
-/* The release that is linked: 10,000 times its major number, 100 times its minor one, and its patch number. So release 1.6.0 is 10600, and a later
+/* The release that is linked: 10,000 times its major number, 100 times its minor one, and its patch number. So release 1.7.0 is 10700, and a later
    release has a larger number. */
 uint32_t kernelhop_version(void);
 
@@ -135,6 +138,16 @@ struct kernelhop_part {
    one is answered no, or the number is that of no factor of the list, the part is the empty one at the start of `bytes`, and all its fields are 0. */
 struct kernelhop_part kernelhop_letters_of(const uint8_t *bytes, size_t bytes_len, const uint16_t *ends, size_t ends_len, const uint8_t *inverses,
                                            size_t inverses_len, uint8_t number);
+
+/* Do the matrices modulo 7 show at once that the target is no product of generators? The list is as for kernelhop_judge. Modulo 7, and up to sign, there
+   are 168 matrices, and the image of a word is the one that its matrix becomes.
+   The quick no: KERNELHOP_NONE, and value is 0; exactly when the target's image is not a product of one or more of the generators' images, so that an empty
+   list always gets it. Then kernelhop_judge and kernelhop_judge_subgroup say none for every n, and kernelhop_reachable says no, wherever they do not refuse.
+   Otherwise the answer is open: KERNELHOP_OPEN, and value is 0. The target may be a product then, or none, and one of those three calls has to be asked.
+   No tables are needed, and nothing is written.
+   Asks: 7 to 12 as kernelhop_judge does. */
+struct kernelhop_outcome kernelhop_quick_no(const uint8_t *bytes, size_t bytes_len, const uint16_t *ends, size_t ends_len, const uint8_t *target,
+                                            size_t target_len);
 
 /* What kernelhop_judge says of the list, the target and n that a query card says; the program `verdict` prints its answer as a line. 16-bit numbers and
    matrix entries have the low byte first. A matrix as the target is its normal form.

@@ -51,7 +51,7 @@ static struct kernelhop_outcome word_to_matrix(const char *word, int64_t out[4])
 }
 
 static void version(void) {
-    CHECK(kernelhop_version() >= 10600);
+    CHECK(kernelhop_version() >= 10700);
 }
 
 static void words(void) {
@@ -696,6 +696,182 @@ static void lent_for_a_subgroup(void) {
     CHECK(is(kernelhop_judge_subgroup(NULL, 0, NULL, 0, NULL, 0, 0, first, 1, second, 1, NULL, 0, NULL, 0), 14, 0));
 }
 
+static struct kernelhop_outcome quick_no(const char *target) {
+    return kernelhop_quick_no(given, given_len, given_ends, given_count, (const uint8_t *)target, strlen(target));
+}
+
+static int left_open(const char *const *words, size_t count, const char *target) {
+    give(words, count);
+    return is(quick_no(target), KERNELHOP_OPEN, 0);
+}
+
+/* Does none of the three verdicts find a product, the bounded ones for no n from 0 up? */
+static int none_by_all(const char *const *words, size_t count, const char *target) {
+    const uint16_t bounds[] = {0, 1, 2, 7, KERNELHOP_BOUND};
+    give(words, count);
+    for (size_t i = 0; i < sizeof bounds / sizeof *bounds; i++) {
+        if (!none_for(words, count, target, bounds[i]) || !is(in_subgroup(target, bounds[i]), KERNELHOP_NONE, bounds[i])) {
+            return 0;
+        }
+    }
+    return is(reachable(words, count, target), KERNELHOP_NONE, 0);
+}
+
+/* Is the quick no given, and is it right? */
+static int no_at_once(const char *const *words, size_t count, const char *target) {
+    give(words, count);
+    return is(quick_no(target), KERNELHOP_NONE, 0) && none_by_all(words, count, target);
+}
+
+static void quick_answers(void) {
+    char power_of_u[22];
+    repeat(power_of_u, "SSR", 7);
+    const char *const t[] = {"SR"};
+    CHECK(no_at_once(t, 1, "R"));
+    CHECK(no_at_once(t, 1, "SSR"));
+    CHECK(left_open(t, 1, "SRSR"));
+    /* Modulo 7 the inverse of T is its 6th power, and U to the 7th is the unit, as T to the 7th is: both are open, though no product makes them. */
+    CHECK(left_open(t, 1, "RSS") && none_for(t, 1, "RSS", KERNELHOP_BOUND) && is(reachable(t, 1, "RSS"), KERNELHOP_NONE, 0));
+    CHECK(left_open(t, 1, power_of_u) && none_by_all(t, 1, power_of_u));
+    CHECK(left_open(t, 1, "") && none_for(t, 1, "", KERNELHOP_BOUND));
+    /* Modulo 7, up to sign, T is the 4th power of its square: multiplied out, the letters of SRSR make T to the 2nd, and those of SR make -T. */
+    CHECK(left_open((const char *[]){"SRSR"}, 1, "SR") && none_by_all((const char *[]){"SRSR"}, 1, "SR"));
+    /* A list without generators has no product, so not even the unit is one. */
+    CHECK(no_at_once(NULL, 0, ""));
+    CHECK(no_at_once(NULL, 0, "RSSSR"));
+    CHECK(no_at_once(NULL, 0, "R"));
+    /* Generators that vanish, and an empty one. */
+    CHECK(left_open((const char *[]){"SSS"}, 1, "") && left_open((const char *[]){""}, 1, "RSSSR"));
+    CHECK(no_at_once((const char *[]){"SSS"}, 1, "R") && no_at_once((const char *[]){"", "RR"}, 2, "S"));
+    /* Products of one factor, of two, and of three. */
+    CHECK(left_open((const char *[]){"S"}, 1, "S") && left_open((const char *[]){"S"}, 1, "SS") && left_open((const char *[]){"S"}, 1, ""));
+    CHECK(no_at_once((const char *[]){"S"}, 1, "R") && no_at_once((const char *[]){"S"}, 1, "SR") && no_at_once((const char *[]){"R"}, 1, "SS"));
+}
+
+/* R and S make everything, so that none of the 168 images gets the no: here on random words, the same ones in every run. */
+static void open_to_every_target(void) {
+    const char *const list[] = {"R", "S"};
+    static char letters[4097];
+    uint32_t bits = 1;
+    CHECK(left_open(list, 2, ""));
+    for (size_t len = 1; len <= 80; len++) {
+        for (size_t i = 0; i < len; i++) {
+            bits = bits * 1664525 + 1013904223;
+            letters[i] = bits >> 31 ? 'R' : 'S';
+        }
+        letters[len] = 0;
+        CHECK(left_open(list, 2, letters));
+    }
+    repeat(letters, "SR", 40);
+    CHECK(left_open(list, 2, letters));
+    repeat(letters, "S", 4096);
+    CHECK(left_open(list, 2, letters));
+}
+
+/* The matrices (a b; c d) of which 7 divides c are a subgroup, and these words generate it. Modulo 7 their products are the matrices with c = 0. So the
+   quick no is given exactly where 7 does not divide c; and where it does, the target is a member of the subgroup. */
+static void a_subgroup_that_is_seen_modulo_7(void) {
+    const char *const list[] = {"SR", "RSRSRSRSSRSSR", "RSRSSRSRSRSSR"};
+    char powers[3][81];
+    repeat(powers[0], "SSR", 7);
+    repeat(powers[1], "RS", 21);
+    repeat(powers[2], "SR", 40);
+    const char *const inside[] = {"", "SR", "RSS", list[1], list[2], "RSRSRSSRSSRSSR", "SRRSRSRSRSSRSSR", powers[0], powers[1], powers[2]};
+    for (size_t i = 0; i < sizeof inside / sizeof *inside; i++) {
+        CHECK(left_open(list, 3, inside[i]));
+        CHECK(in_subgroup(inside[i], KERNELHOP_BOUND).number == 0);
+    }
+    repeat(powers[0], "SSR", 6);
+    repeat(powers[1], "RS", 20);
+    repeat(powers[2], "SSR", 26);
+    const char *const outside[] = {"R", "S", "SS", "SSR", "RSR", "SRS", "RSRSRSRSSRSS", "RSRSSRSRSRSSRS", powers[0], powers[1], powers[2]};
+    for (size_t i = 0; i < sizeof outside / sizeof *outside; i++) {
+        CHECK(no_at_once(list, 3, outside[i]));
+    }
+    /* Every word of up to 8 letters, by its own matrix. */
+    for (unsigned word = 0; word < 511; word++) {
+        char letters[9] = "";
+        int64_t m[4];
+        for (unsigned bits = word + 1, i = 0; bits > 1; bits /= 2, i++) {
+            letters[i] = bits % 2 ? 'R' : 'S';
+        }
+        CHECK(is(word_to_matrix(letters, m), 0, 0));
+        give(list, 3);
+        CHECK(is(quick_no(letters), m[2] % 7 == 0 ? KERNELHOP_OPEN : KERNELHOP_NONE, 0));
+    }
+}
+
+/* Each question of the quick answer, with its place; and what just passes. */
+static void refused_quick_answers(void) {
+    const char *many[65];
+    for (size_t i = 0; i < 65; i++) {
+        many[i] = "x";
+    }
+    static char letters[4098];
+    repeat(letters, "R", 4097);
+    char longest[81];
+    char too_long[83];
+    repeat(longest, "SR", 40);
+    repeat(too_long, "SR", 41);
+
+    give(many, 65);
+    CHECK(is(quick_no(letters), 7, 0));
+    give((const char *[]){letters}, 1);
+    given_ends[0] = 1;
+    CHECK(is(quick_no("x"), 8, 0));
+    give((const char *[]){"x"}, 1);
+    given_ends[0] = 2;
+    CHECK(is(quick_no(letters), 8, 0));
+    CHECK(is(quick_no("x"), 9, 1));
+    const uint8_t *bytes = (const uint8_t *)"RSx";
+    CHECK(is(kernelhop_quick_no(bytes, 3, (const uint16_t[]){2, 1, 3}, 3, bytes, 1), 9, 1));
+    CHECK(is(kernelhop_quick_no(bytes, 3, (const uint16_t[]){1, 2}, 2, bytes, 1), 9, 2));
+    CHECK(is(kernelhop_quick_no(bytes, 3, NULL, 0, bytes, 1), 9, 0));
+    CHECK(is(kernelhop_quick_no(NULL, 0, (const uint16_t[]){1}, 1, NULL, 0), 9, 1));
+    give((const char *[]){too_long, "Sx"}, 2);
+    CHECK(is(quick_no("x"), 10, 83));
+    give((const char *[]){too_long, "S"}, 2);
+    CHECK(is(quick_no("Rx"), 10, 84));
+    CHECK(is(quick_no(too_long), 11, 0));
+    give((const char *[]){"R", too_long}, 2);
+    CHECK(is(quick_no(too_long), 11, 1));
+    give((const char *[]){longest, longest, longest, longest, "", "S"}, 6);
+    CHECK(is(quick_no(too_long), 11, 5));
+    give((const char *[]){"SR"}, 1);
+    CHECK(is(quick_no(too_long), 12, 0));
+    give(NULL, 0);
+    CHECK(is(quick_no(too_long), 12, 0));
+    /* One letter more than may be. */
+    too_long[81] = 0;
+    CHECK(is(quick_no(too_long), 12, 0));
+    give((const char *[]){"", too_long}, 2);
+    CHECK(is(quick_no("R"), 11, 1));
+
+    for (size_t i = 0; i < 64; i++) {
+        many[i] = "SRSRS";
+    }
+    CHECK(left_open(many, 64, "SRSRS"));
+    letters[4096] = 0;
+    CHECK(left_open((const char *[]){letters}, 1, letters));
+    give((const char *[]){letters}, 1);
+    CHECK(is(quick_no("R"), KERNELHOP_NONE, 0));
+    CHECK(left_open((const char *[]){longest, longest, longest, longest}, 4, longest));
+}
+
+/* Nothing that is read has to be there at length 0, and slices that are only read may overlap. */
+static void quick_answers_at_length_0(void) {
+    const uint8_t *bytes = (const uint8_t *)"SR";
+    const uint16_t nothing[] = {0};
+    const uint16_t ends[] = {2};
+    CHECK(is(kernelhop_quick_no(NULL, 0, NULL, 0, NULL, 0), KERNELHOP_NONE, 0));
+    CHECK(is(kernelhop_quick_no(NULL, 0, NULL, 0, bytes + 1, 1), KERNELHOP_NONE, 0));
+    CHECK(is(kernelhop_quick_no(NULL, 0, nothing, 1, NULL, 0), KERNELHOP_OPEN, 0));
+    CHECK(is(kernelhop_quick_no(NULL, 0, nothing, 1, bytes, 1), KERNELHOP_NONE, 0));
+    CHECK(is(kernelhop_quick_no(bytes, 2, ends, 1, NULL, 0), KERNELHOP_OPEN, 0));
+    CHECK(is(kernelhop_quick_no(bytes, 2, ends, 1, bytes, 2), KERNELHOP_OPEN, 0));
+    CHECK(is(kernelhop_quick_no(bytes, 2, ends, 1, bytes, 1), KERNELHOP_NONE, 0));
+}
+
 static void cards(void) {
     const uint8_t card[] = {0x0B, 3, 0, 6, 0, 'S', 'R', 'S', 'R', 'S', 'R', 1, 2, 0, 'S', 'R'};
     uint16_t first[225] = {0};
@@ -738,6 +914,11 @@ static void *all(void *nothing) {
     largest_signed_tables();
     refused_subgroups();
     lent_for_a_subgroup();
+    quick_answers();
+    open_to_every_target();
+    a_subgroup_that_is_seen_modulo_7();
+    refused_quick_answers();
+    quick_answers_at_length_0();
     cards();
     return nothing;
 }

@@ -12,6 +12,8 @@ Refused. A product has one factor or more: so an empty target, or one that vanis
     (True, False)
     >>> kernelhop.verdict(["SR", "RS"], ""), kernelhop.reachable(["SR"], "")
     (Member(factors=(0, 0, 1, 0, 0, 1)), False)
+    >>> kernelhop.quick_no(["SR"], "R"), kernelhop.quick_no(["SR"], "RSS")    # a no modulo 7; open
+    (True, False)
     >>> kernelhop.subgroup_verdict(["SR", "SSR"], "SS")
     <SubgroupMember by 0 1^-1>
     >>> kernelhop.reduce("SRRSSSSR")
@@ -46,6 +48,7 @@ __all__ = [
     "invert",
     "is_normal",
     "matrix",
+    "quick_no",
     "reachable",
     "reduce",
     "subgroup_verdict",
@@ -75,6 +78,9 @@ TEXTS = (
 
 # The number of an outcome that says none.
 NONE = 255
+
+# The number of a quick answer that leaves it open.
+OPEN = 254
 
 # The letters that a matrix's normal form may have (question 14).
 FORM = 80
@@ -287,6 +293,22 @@ def reachable(generators, target):
     return _reached(letters, len(letters), ends.buffer_info()[0], len(ends), target, len(target))
 
 
+def quick_no(generators, target):
+    """Do the matrices modulo 7 show at once that the target is no product of the generators? True is the quick no, and False leaves it open. Asks questions 7
+    to 12, and needs no tables.
+
+    The no is given exactly when the target's image, modulo 7 and up to sign one of 168, is not a product of one or more of the generators' images, so that an
+    empty list always gets it. Then `verdict` and `subgroup_verdict` say NoMember for every n, and `reachable` says False, wherever they do not refuse. Where it
+    is open, the target may be a product or none. The generators are as `verdict` takes them.
+    """
+    letters, ends = _list(generators)
+    target = _letters(target)
+    outcome = _quick_no(letters, len(letters), ends.buffer_info()[0], len(ends), target, len(target))
+    if outcome.number not in (NONE, OPEN):
+        raise Refused(outcome.number, outcome.value)
+    return outcome.number == NONE
+
+
 def answer_card(card):
     """The verdict that a query card asks for: a bytes object, or the bytes of any other object that has them. Asks questions 1 to 13."""
     card = _bytes(card)
@@ -349,6 +371,7 @@ _judge = _call("judge", *_READ, *_LENT, *_READ, ctypes.c_uint16, *_LENT * 3)
 _reachable = _call("reachable", *_READ, *_LENT, *_READ, *_LENT * 2)
 _judge_subgroup = _call("judge_subgroup", *_READ, *_LENT, *_READ, ctypes.c_uint16, *_LENT * 4)
 _letters_of = _call("letters_of", *_READ, *_LENT, *_READ, ctypes.c_uint8, result=_Part)
+_quick_no = _call("quick_no", *_READ, *_LENT, *_READ)
 _answer_card = _call("answer_card", *_READ, *_LENT * 3)
 
 

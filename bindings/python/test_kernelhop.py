@@ -25,6 +25,7 @@ from kernelhop import (
     invert,
     is_normal,
     matrix,
+    quick_no,
     reachable,
     reduce,
     subgroup_verdict,
@@ -34,6 +35,7 @@ from kernelhop import (
 
 HERE = os.path.dirname(os.path.abspath(__file__))
 RUST = os.path.join(HERE, "..", "rust", "src", "refusal.rs")
+HEADER = os.path.join(HERE, "..", "c", "kernelhop.h")
 CONTRACTS = os.path.join(HERE, "..", "..", "crates", "kernelhop", "src", "lib.rt")
 
 
@@ -508,6 +510,140 @@ class Relations(Case):
         self.assertEqual(answer_card(b"\x00"), NoMember(1000))
 
 
+class QuickAnswers(Case):
+    # These generate the subgroup of the matrices (a b; c d) of which 7 divides c. Modulo 7 their products are the matrices with c = 0.
+    CONGRUENT = ("SR", "RSRSRSRSSRSSR", "RSRSSRSRSRSSR")
+
+    def none_by_all(self, generators, target):
+        """None of the three verdicts finds a product, the bounded ones for no n from 0 up."""
+        for n in (0, 1, 2, 7, 1000):
+            self.assertEqual(verdict(generators, target, n), NoMember(n))
+            self.assertEqual(subgroup_verdict(generators, target, n), NoMember(n))
+        self.assertIs(reachable(generators, target), False)
+
+    def test_no(self):
+        for generators, target in [
+            (["SR"], "R"),
+            (["SR"], "SSR"),
+            # a list without generators has no product, so not even the unit is one
+            ([], ""),
+            ([], "RSSSR"),
+            ([], "R"),
+            # generators that vanish, and an empty one
+            (["SSS"], "R"),
+            (["", "RR"], "S"),
+            (["S"], "R"),
+            (["S"], "SR"),
+            (["R"], "SS"),
+        ]:
+            self.assertIs(quick_no(generators, target), True)
+            self.none_by_all(generators, target)
+
+    def test_open(self):
+        for generators, target in [
+            (["SR"], "SRSR"),
+            (iter(["SR"]), "SR" * 40),
+            # products of one factor, of two, and of three
+            (["S"], "S"),
+            (["S"], "SS"),
+            (["S"], ""),
+            # generators that vanish, and an empty one
+            (["SSS"], ""),
+            ([""], "RSSSR"),
+        ]:
+            self.assertIs(quick_no(generators, target), False)
+
+    def test_open_though_none(self):
+        """Modulo 7 the inverse of T is its 6th power, and U to the 7th is the unit, as T to the 7th is."""
+        for target in ["RSS", "", "SSR" * 7]:
+            self.assertIs(quick_no(["SR"], target), False)
+            self.assertEqual(verdict(["SR"], target), NoMember(1000))
+            self.assertIs(reachable(["SR"], target), False)
+        self.none_by_all(["SR"], "SSR" * 7)
+        # Modulo 7, up to sign, T is the 4th power of its square: multiplied out, the letters of SRSR make T to the 2nd, and those of SR make -T.
+        self.assertIs(quick_no(["SRSR"], "SR"), False)
+        self.none_by_all(["SRSR"], "SR")
+
+    def test_open_to_every_target(self):
+        """R and S make everything, so that none of the 168 images gets the no."""
+        chance = random.Random(1)
+        images = set()
+        for length in [*range(81)] * 20:
+            target = "".join(chance.choices("RS", k=length))
+            self.assertIs(quick_no(["R", "S"], target), False)
+            image = tuple(entry % 7 for entry in matrix(target))
+            images.add(min(image, tuple(-entry % 7 for entry in image)))
+        self.assertEqual(len(images), 168)
+        self.assertIs(quick_no(["R", "S"], "SR" * 40), False)
+        self.assertIs(quick_no(["R", "S"], "S" * 4096), False)
+
+    def test_a_subgroup_that_is_seen_modulo_7(self):
+        """The quick no is given exactly where 7 does not divide c; and where it does, the target is a member of the subgroup."""
+        inside = [*self.CONGRUENT, *map(invert, self.CONGRUENT), "", "SSR" * 7, "RS" * 21, "SR" * 40]
+        outside = ["R", "S", "SS", "SSR", "SRS", "RSR", self.CONGRUENT[1][:-1], "SSR" * 6, "SSR" * 26, "RS" * 20]
+        for target in inside:
+            self.assertEqual(matrix(target)[2] % 7, 0)
+            self.assertIs(quick_no(self.CONGRUENT, target), False)
+            self.assertTrue(subgroup_verdict(self.CONGRUENT, target))
+        for target in outside:
+            self.assertNotEqual(matrix(target)[2] % 7, 0)
+            self.assertIs(quick_no(self.CONGRUENT, target), True)
+            self.none_by_all(self.CONGRUENT, target)
+        chance = random.Random(1)
+        for length in [*range(81)] * 10:
+            target = "".join(chance.choices("RS", k=length))
+            self.assertIs(quick_no(self.CONGRUENT, target), matrix(target)[2] % 7 != 0)
+
+    def test_refused(self):
+        long = "SR" * 41
+        self.refused(7, 0, quick_no, ["x"] * 65, "R" * 4097)
+        self.refused(8, 0, quick_no, ["R" * 4097], "x")
+        self.refused(8, 0, quick_no, ["R" * 70000, "S"], "x")
+        self.refused(8, 0, quick_no, ["x"], "R" * 4097)
+        self.refused(10, 83, quick_no, [long, "Sx"], "x")
+        self.refused(10, 84, quick_no, [long, "S"], "Rx")
+        self.refused(10, 1, quick_no, ["R\N{GREEK CAPITAL LETTER OMEGA}"], long)
+        self.refused(11, 1, quick_no, ["R", long], long)
+        self.refused(11, 4, quick_no, ["SR" * 40] * 5, long)
+        self.refused(12, 0, quick_no, ["R"], long)
+        self.refused(12, 0, quick_no, [], long)
+        # One letter more than may be: of a generator, of all together, and of the target.
+        self.refused(11, 1, quick_no, ["", long[:81]], long)
+        self.refused(11, 5, quick_no, ["SR" * 40] * 4 + ["", "S"], long)
+        self.refused(12, 0, quick_no, ["R"], long[:81])
+
+    def test_what_just_passes(self):
+        self.assertIs(quick_no(["SRSRS"] * 64, "SRSRS"), False)
+        self.assertIs(quick_no(["R" * 4096], "R" * 4096), False)
+        self.assertIs(quick_no(["R" * 4096], "R" * 4095), True)
+        self.assertIs(quick_no(["SR" * 40] * 4, "SR" * 40), False)
+
+    def test_misuse(self):
+        for given, text in [("RS", "not one word"), (["R", 5], "each of them a str"), ({"R"}, "not set, whose order is not the caller's")]:
+            with self.assertRaisesRegex(TypeError, text):
+                quick_no(given, "R")
+        with self.assertRaisesRegex(TypeError, "a word is a str"):
+            quick_no(["R"], b"R")
+
+    def test_lent(self):
+        """The numbers that the library says. Open has one of its own, so that it is not taken for a yes."""
+
+        def asked(letters, ends, target):
+            ends = array("H", ends)
+            outcome = kernelhop._quick_no(letters, len(letters), ends.buffer_info()[0], len(ends), target, len(target))
+            return outcome.number, outcome.value
+
+        self.assertEqual(asked(b"SR", [2], b"R"), (255, 0))
+        self.assertEqual(asked(b"SR", [2], b"RSS"), (254, 0))
+        self.assertEqual(asked(b"", [], b""), (255, 0))
+        self.assertEqual(asked(b"", [0], b""), (254, 0))
+        for ends, place in [([2, 1], 1), ([1, 2, 0], 2), ([1], 1), ([3], 1), ([], 0)]:
+            self.assertEqual(asked(b"Sx", ends, b"x"), (9, place))
+        self.assertEqual(asked(b"Sx", [3] * 65, b"x"), (7, 0))
+        self.assertEqual(asked(b"x" * 4097, [1], b"x"), (8, 0))
+        self.assertEqual(asked(b"Sx", [1, 2], b"x"), (10, 1))
+
+
 class Rooms(Case):
     """The tables that a thread keeps from one verdict to the next."""
 
@@ -560,6 +696,18 @@ class Rooms(Case):
         self.assertEqual(sides, [481, 993, 993])
         self.assertEqual(kernelhop._Room(993).tables[1::2], (993 * 993,) * 2)
 
+    def test_a_quick_answer_needs_none(self):
+        rooms = []
+
+        def ask():
+            self.assertIs(quick_no(["SR"], "R"), True)
+            rooms.append(kernelhop._KEPT.room)
+
+        thread = threading.Thread(target=ask)
+        thread.start()
+        thread.join()
+        self.assertEqual(rooms, [None])
+
     def test_threads(self):
         wrong = []
 
@@ -569,6 +717,8 @@ class Rooms(Case):
                 if found != Member(((k + 1) % 2,) * k) or answer_card(bytes([3, k, 0, 1, 0, 82])) != NoMember(k):
                     wrong.append(k)
                 if reachable(["SRSR"], "SR" * k) != (k % 2 == 0):
+                    wrong.append(k)
+                if quick_no(["SR" * 7], "SR" * k) != (k != 7):
                     wrong.append(k)
                 if subgroup_verdict(["SR"], "RSS" * k).written != bytes([128] * k):
                     wrong.append(k)
@@ -643,14 +793,19 @@ class Module(unittest.TestCase):
             self.assertIsNotNone(getattr(kernelhop, name).__doc__, name)
 
     def test_another_library(self):
-        """A folder without a library, a library without the calls, and one of an older release, which does not answer as the module says."""
+        """A folder without a library, a library without the calls, or without one of them, and one of an older release, which does not answer as the module
+        says."""
         version = "unsigned kernelhop_version(void) { return %d; }"
+        names = re.findall(r"^struct \w+ (kernelhop_\w+)\(", text_of(HEADER), re.MULTILINE)
+        self.assertIn("kernelhop_quick_no", names)
+        without = {name: [version % kernelhop.OLDEST_RELEASE, *(f"void {other}(void) {{}}" for other in names if other != name)] for name in names}
         with tempfile.TemporaryDirectory() as folder:
             for source, text in [
                 (None, "run bindings/python/build"),
                 ("", "has no kernelhop_version, so it is of another release than this module"),
                 (version % kernelhop.OLDEST_RELEASE, "has no kernelhop_reduce, so it is of another release than this module"),
                 (version % (kernelhop.OLDEST_RELEASE - 1), "is older than this module"),
+                *(("\n".join(source), f"has no {name}, so it is of another release than this module") for name, source in without.items()),
             ]:
                 if source is not None:
                     make = ["gcc", "-shared", "-o", os.path.join(folder, "libkernelhop.so"), "-x", "c", "-"]

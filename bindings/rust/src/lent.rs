@@ -6,7 +6,8 @@
 
 use crate::Refusal;
 
-/// An answer: 0 and its value. None: `NONE` and n, or 0 where there is no bound. A refusal: the question's number, from 1 to 16, and its place.
+/// An answer: 0 and its value. None: `NONE` and n, or 0 where there is no bound. Open: `OPEN` and 0. A refusal: the question's number, from 1 to 16, and its
+/// place.
 #[repr(C)]
 struct Outcome {
     number: u8,
@@ -14,6 +15,8 @@ struct Outcome {
 }
 
 const NONE: u8 = 255;
+
+const OPEN: u8 = 254;
 
 /// What reduction answers: 0, the pairs and the triples that went, and the length. A refusal: the question's number, no pairs, no triples, and its place.
 #[repr(C)]
@@ -110,6 +113,14 @@ extern "C" {
         inverses_len: usize,
         number: u8,
     ) -> Part;
+    fn kernelhop_quick_no(
+        bytes: *const u8,
+        bytes_len: usize,
+        ends: *const u16,
+        ends_len: usize,
+        target: *const u8,
+        target_len: usize,
+    ) -> Outcome;
     fn kernelhop_answer_card(
         card: *const u8,
         card_len: usize,
@@ -166,6 +177,14 @@ fn reached(outcome: Outcome) -> Result<bool, Refusal> {
     match outcome.number {
         NONE => Ok(false),
         _ => Ok(value(outcome)? == 1),
+    }
+}
+
+fn said_no(outcome: Outcome) -> Result<bool, Refusal> {
+    match outcome.number {
+        NONE => Ok(true),
+        OPEN => Ok(false),
+        number => Err(Refusal::new(number, outcome.value)),
     }
 }
 
@@ -317,6 +336,22 @@ pub fn letters_of<'a>(given: &'a [u8], ends: &[u16], inverses: &'a [u8], number:
     };
     let slice = if part.inverse == 0 { given } else { inverses };
     &slice[usize::from(part.start)..usize::from(part.end)]
+}
+
+/// The quick answer on a list, from the images of its generators modulo 7, up to sign: true is the no, given exactly when the target's image is not a product
+/// of one or more of them, and then `judge`, `reachable` and `judge_subgroup` say none as well; false leaves it open. Asks questions 7 to 12. No tables are
+/// needed.
+pub fn quick_no(bytes: &[u8], ends: &[u16], target: &[u8]) -> Result<bool, Refusal> {
+    said_no(unsafe {
+        kernelhop_quick_no(
+            bytes.as_ptr(),
+            bytes.len(),
+            ends.as_ptr(),
+            ends.len(),
+            target.as_ptr(),
+            target.len(),
+        )
+    })
 }
 
 /// The verdict that a card asks for. Asks questions 1 to 15, and does to the lent slices what `judge` does.

@@ -9,7 +9,7 @@
 //! up to 3,945,196 once it has asked for a verdict on a subgroup. Who wants to say what memory is used lends it, by the calls of `lent`.
 //!
 //! ```
-//! use kernelhop::{reachable, reduce, subgroup_verdict, verdict, SubgroupVerdict, Verdict};
+//! use kernelhop::{quick_no, reachable, reduce, subgroup_verdict, verdict, SubgroupVerdict, Verdict};
 //!
 //! let answer = verdict(&["RSRS", "S", "SRSS"], "R", 3)?;
 //! assert_eq!(answer, Verdict::Member { factors: vec![0, 1, 2] });
@@ -19,6 +19,10 @@
 //! // A relation: of T and the inverse of U, where T is SR and U is SSR. T alone has none.
 //! assert_eq!(verdict(&["SR", "RS"], "", 1000)?, Verdict::Member { factors: vec![0, 0, 1, 0, 0, 1] });
 //! assert!(!reachable(&["SR"], "")?);
+//!
+//! // The quick no: no power of T is R, as the matrices modulo 7 show. Of its inverse they leave it open.
+//! assert!(quick_no(&["SR"], "R")?);
+//! assert!(!quick_no(&["SR"], "RSS")?);
 //!
 //! // With inverses as factors: T times U to the -1st.
 //! let SubgroupVerdict::Member(found) = subgroup_verdict(&["SR", "SSR"], "SS", 1000)? else {
@@ -94,7 +98,7 @@ fn text(letters: &[u8]) -> String {
     letters.iter().map(|&letter| char::from(letter)).collect()
 }
 
-/// The release of the library that answers, such as `1.6.0`.
+/// The release of the library that answers, such as `1.7.0`.
 pub fn version() -> String {
     let release = lent::version();
     format!(
@@ -200,6 +204,28 @@ pub fn reachable(
     let target = target.as_ref();
     let (bytes, ends) = joined(generators);
     Room::lend(|room| lent::reachable(&bytes, &ends, target, &mut room.first, &mut room.second))
+}
+
+/// Do the matrices modulo 7 show at once that the target is no product of the generators? True is the quick no: given exactly when the target's image, modulo 7
+/// and up to sign one of 168, is not a product of one or more of the generators' images, so that an empty list always gets it. Then `verdict` and
+/// `subgroup_verdict` say none for every n, and `reachable` says false, wherever they do not refuse. False leaves it open: the target may be a product or none.
+/// Asks questions 7 to 12, and needs no tables.
+///
+/// ```
+/// use kernelhop::{quick_no, reachable};
+///
+/// assert!(quick_no(&["SR"], "R")?);
+/// // Open, though it is none: modulo 7 the inverse of SR is its 6th power.
+/// assert!(!quick_no(&["SR"], "RSS")?);
+/// assert!(!reachable(&["SR"], "RSS")?);
+/// # Ok::<(), kernelhop::Refusal>(())
+/// ```
+pub fn quick_no(
+    generators: &[impl AsRef<[u8]>],
+    target: impl AsRef<[u8]>,
+) -> Result<bool, Refusal> {
+    let (bytes, ends) = joined(generators);
+    lent::quick_no(&bytes, &ends, target.as_ref())
 }
 
 /// Is the target a product of at most n factors, each of them a generator or the inverse of one? So the list is taken as the subgroup that it generates, and no

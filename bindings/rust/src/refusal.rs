@@ -31,7 +31,7 @@ const TEXTS: [&str; 16] = [
 ];
 
 impl Refusal {
-    /// `number` is one of a question, from 1 to 16: the library's other two are no refusals.
+    /// `number` is one of a question, from 1 to 16: the library's other three are no refusals.
     pub(crate) fn new(number: u8, place: usize) -> Refusal {
         Refusal { number, place }
     }

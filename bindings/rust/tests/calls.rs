@@ -1,9 +1,9 @@
 //! The package's functions on worked values, edges, and what they refuse.
 
 use kernelhop::{
-    answer_card, invert, is_normal, lent, matrix_to_word, reachable, reduce, subgroup_verdict,
-    verdict, version, word_to_matrix, Reduction, SignedFactor, SubgroupMember, SubgroupVerdict,
-    Verdict,
+    answer_card, invert, is_normal, lent, matrix_to_word, quick_no, reachable, reduce,
+    subgroup_verdict, verdict, version, word_to_matrix, Reduction, SignedFactor, SubgroupMember,
+    SubgroupVerdict, Verdict,
 };
 use std::{cell::RefCell, sync::mpsc, thread};
 
@@ -445,6 +445,122 @@ fn refused_subgroups() {
     assert_eq!(refused(subgroup_verdict(&["R"], "R", u16::MAX)), (13, 0));
 }
 
+/// None of the three verdicts finds a product, the bounded ones for no n from 0 up.
+fn none_by_all(list: &[&str], target: &str) -> bool {
+    let for_no_n = [0, 1, 2, 7, 1000].into_iter().all(|n| {
+        verdict(list, target, n) == Ok(Verdict::None { n })
+            && subgroup_verdict(list, target, n) == Ok(SubgroupVerdict::None { n })
+    });
+    for_no_n && reachable(list, target) == Ok(false)
+}
+
+/// The quick no is given, and it is right.
+fn no_at_once(list: &[&str], target: &str) -> bool {
+    quick_no(list, target) == Ok(true) && none_by_all(list, target)
+}
+
+fn left_open(list: &[&str], target: &str) -> bool {
+    quick_no(list, target) == Ok(false)
+}
+
+#[test]
+fn quick_answers() {
+    assert!(no_at_once(&["SR"], "R"));
+    assert!(no_at_once(&["SR"], "SSR"));
+    assert!(left_open(&["SR"], "SRSR"));
+    // Modulo 7 the inverse of T is its 6th power, and U to the 7th is the unit, as T to the 7th is: both are open, though no product makes them.
+    assert!(left_open(&["SR"], "RSS"));
+    assert_eq!(verdict(&["SR"], "RSS", 1000), Ok(Verdict::None { n: 1000 }));
+    assert_eq!(reachable(&["SR"], "RSS"), Ok(false));
+    let power = "SSR".repeat(7);
+    assert!(left_open(&["SR"], &power) && none_by_all(&["SR"], &power));
+    assert!(left_open(&["SR"], ""));
+    assert_eq!(reachable(&["SR"], ""), Ok(false));
+    // Modulo 7, up to sign, T is the 4th power of its square: multiplied out, the letters of SRSR make T to the 2nd, and those of SR make -T.
+    assert!(left_open(&["SRSR"], "SR") && none_by_all(&["SRSR"], "SR"));
+    // A list without generators has no product, so not even the unit is one.
+    assert!(no_at_once(&[], "") && no_at_once(&[], "RSSSR") && no_at_once(&[], "R"));
+    // Generators that vanish, and an empty one.
+    assert!(left_open(&["SSS"], "") && left_open(&[""], "RSSSR"));
+    assert!(no_at_once(&["SSS"], "R") && no_at_once(&["", "RR"], "S"));
+    // Products of one factor, of two, and of three.
+    assert!(left_open(&["S"], "S") && left_open(&["S"], "SS") && left_open(&["S"], ""));
+    assert!(no_at_once(&["S"], "R") && no_at_once(&["S"], "SR") && no_at_once(&["R"], "SS"));
+    assert_eq!(quick_no(&[b"SR"], b"R"), Ok(true));
+}
+
+/// R and S make everything, so that none of the 168 images gets the no.
+#[test]
+fn open_to_every_target() {
+    let mut letters = random_letters();
+    for length in 0..=80 {
+        let target: String = letters.by_ref().take(length).collect();
+        assert!(left_open(&["R", "S"], &target));
+    }
+    assert!(left_open(&["R", "S"], &"SR".repeat(40)));
+    assert!(left_open(&["R", "S"], &"S".repeat(4096)));
+}
+
+/// The matrices (a b; c d) of which 7 divides c are a subgroup, and these words generate it. Modulo 7 their products are the matrices with c = 0. So the quick
+/// no is given exactly where 7 does not divide c; and where it does, the target is a member of the subgroup.
+#[test]
+fn a_subgroup_that_is_seen_modulo_7() {
+    let list = ["SR", "RSRSRSRSSRSSR", "RSRSSRSRSRSSR"];
+    let [u, inverse_of_u] = ["SSR", "RS"].map(|word| move |k| word.repeat(k));
+    let inside = ["", "SR", "RSS", list[1], list[2], "RSRSRSSRSSRSSR"].map(String::from);
+    let powers = [u(7), inverse_of_u(21), "SR".repeat(40)];
+    for target in inside.iter().chain(&powers) {
+        assert!(left_open(&list, target));
+        in_subgroup(&list, target);
+    }
+    let outside = ["R", "S", "SS", "SRS", "RSR", "RSRSRSRSSRSS"].map(String::from);
+    let powers = [u(1), u(6), u(26), inverse_of_u(20)];
+    for target in outside.iter().chain(&powers) {
+        assert!(no_at_once(&list, target));
+    }
+    // Random words, by their own matrices.
+    let mut letters = random_letters();
+    for length in (0..=80).cycle().take(810) {
+        let target: String = letters.by_ref().take(length).collect();
+        let [_, _, c, _] = word_to_matrix(&target).unwrap();
+        assert_eq!(quick_no(&list, &target), Ok(c % 7 != 0));
+    }
+}
+
+/// Each question with its place, and what just passes.
+#[test]
+fn refused_quick_answers() {
+    let long = "SR".repeat(41);
+    assert_eq!(refused(quick_no(&["x"; 65], "R".repeat(4097))), (7, 0));
+    assert_eq!(refused(quick_no(&["R".repeat(4097)], "x")), (8, 0));
+    assert_eq!(
+        refused(quick_no(&["R".repeat(70_000), "S".into()], "x")),
+        (8, 0)
+    );
+    assert_eq!(refused(quick_no(&["x"], "R".repeat(4097))), (8, 0));
+    assert_eq!(refused(quick_no(&[&long, "Sx"], "x")), (10, 83));
+    assert_eq!(refused(quick_no(&[&long, "S"], "Rx")), (10, 84));
+    assert_eq!(refused(quick_no(&["R", &long], &long)), (11, 1));
+    assert_eq!(refused(quick_no(&vec!["SR".repeat(40); 5], &long)), (11, 4));
+    assert_eq!(refused(quick_no(&["R"], &long)), (12, 0));
+    assert_eq!(refused(quick_no(&[""; 0], &long)), (12, 0));
+    // One letter more than may be: of a generator, of all together, and of the target.
+    let longest = "SR".repeat(40);
+    let [one, more] = [&longest, &long[..81]];
+    assert_eq!(refused(quick_no(&["", more], more)), (11, 1));
+    assert_eq!(
+        refused(quick_no(&[one, one, one, one, "", "S"], more)),
+        (11, 5)
+    );
+    assert_eq!(refused(quick_no(&["R"], more)), (12, 0));
+
+    assert!(left_open(&["SRSRS"; 64], "SRSRS"));
+    let most = "R".repeat(4096);
+    assert_eq!(quick_no(&[&longest; 4], &longest), Ok(false));
+    assert_eq!(quick_no(&[&most], &most), Ok(false));
+    assert_eq!(quick_no(&[&most], "R"), Ok(true));
+}
+
 #[test]
 fn cards() {
     let card = b"\x0b\x03\x00\x06\x00SRSRSR\x01\x02\x00SR";
@@ -500,6 +616,7 @@ fn several_threads() {
                         Verdict::None { n: k as u16 }
                     );
                     assert_eq!(reachable(&["SRSR"], "SR".repeat(k)), Ok(k % 2 == 0));
+                    assert_eq!(quick_no(&["SR".repeat(7)], "SR".repeat(k)), Ok(k != 7));
                     let found = in_subgroup(&["SR"], "RSS".repeat(k));
                     assert_eq!(found.written(), vec![128; k]);
                 }
@@ -753,4 +870,27 @@ fn lent_letters_of_factors() {
         }
     }
     assert_eq!(lent::letters_of(b"", &[], &inverses, 0), b"");
+}
+
+/// The quick answer is lent letters and ends only.
+#[test]
+fn a_lent_list_and_target() {
+    assert_eq!(lent::quick_no(b"SR", &[2], b"R"), Ok(true));
+    assert_eq!(lent::quick_no(b"SR", &[2], b"RSS"), Ok(false));
+    assert_eq!(lent::quick_no(b"SR", &[1, 2], b"RSS"), Ok(false));
+    assert_eq!(lent::quick_no(b"", &[], b""), Ok(true));
+    assert_eq!(lent::quick_no(b"", &[0], b""), Ok(false));
+    for (ends, place) in [
+        (&[2, 1][..], 1),
+        (&[1, 2, 0], 2),
+        (&[1], 1),
+        (&[3], 1),
+        (&[], 0),
+    ] {
+        assert_eq!(refused(lent::quick_no(b"Sx", ends, b"x")), (9, place));
+    }
+    assert_eq!(refused(lent::quick_no(b"Sx", &[3; 65], b"x")), (7, 0));
+    assert_eq!(refused(lent::quick_no(&[b'x'; 4097], &[1], b"x")), (8, 0));
+    assert_eq!(refused(lent::quick_no(b"Sx", &[1, 2], b"x")), (10, 1));
+    assert_eq!(refused(lent::quick_no(b"SR", &[1, 2], b"SxR")), (10, 3));
 }
