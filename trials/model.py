@@ -1,18 +1,20 @@
-"""A model of document 01, "Bounded products in the modular group", and of 02's change requests so far (M-100, M-101, M-103, M-104, M-105; M-102 asks for
-nothing that a caller sees), written from their sentences alone and sharing nothing with the engine.
+"""A model of document 01, "Bounded products in the modular group", and of 02's change requests so far (M-100, M-101, M-103, M-104, M-105, M-106; M-102
+asks for nothing that a caller sees), written from their sentences alone and sharing nothing with the engine.
 
 It is slow and plain on purpose. A word is reduced by erasing, a pair or a triple at a time, and each is counted; a matrix has unlimited integers, the word of
 a matrix is read off the Stern-Brocot tree, and a verdict comes from a walk of the group, product by product; one without a bound comes from an automaton that
-reads the products. Words are bytes, a matrix (a b; c d) is (a, b, c, d).
+reads the products; and the quick answer comes from the same matrices, whose entries are taken modulo 7 only at the end. Words are bytes, a matrix (a b; c d) is
+(a, b, c, d).
 
     erased                                  reduction: what is left of a word, and how many pairs and triples were erased
     normal_form, inverse, matrix, powers    the elements: words, matrices, and the word of a matrix
     first_series                            the verdict's mathematics: a walk, level by level, that keeps the first series of each element
     is_product                              the same without a bound: an automaton of loops, closed under the rules
     inverses, first_signed_series           a list taken as a subgroup: the same walk, with inverses as factors
+    residue, residues, fails_modulo_7       the quick answer's: matrices modulo 7 up to sign, and all that products leave there
     ask, ask_each                           the questions at the door; Refused is the first no
-    reduced, inverted, matrix_of_word, word_of_matrix, verdict, list_verdict, reachable, list_reachable, subgroup_verdict, list_subgroup_verdict
-                                            the calls, with their questions in rising order
+    reduced, inverted, matrix_of_word, word_of_matrix, verdict, list_verdict, reachable, list_reachable, subgroup_verdict, list_subgroup_verdict, quick_no,
+    list_quick_no                           the calls, with their questions in rising order
     part_of                                 where the letters of a factor stand, which tells no question
     line                                    what the program prints for a card
 """
@@ -241,6 +243,35 @@ def is_product(generators, target, cap=200_000):
     return read(empty[START], normal_form(target)) >> HUB & 1 == 1
 
 
+# ---- the same modulo 7
+
+MODULUS = 7
+
+
+def residue(m):
+    """The image of a matrix modulo 7, up to sign: of the two signs the smaller quadruple with entries 0 to 6."""
+    return min(tuple(sign * entry % MODULUS for entry in m) for sign in (1, -1))
+
+
+def residues(generators):
+    """The images of all products of one generator or more.
+
+    The image of a product is that of the product of the images, so those of longer products are made from those of shorter ones; and there are 168 images in
+    all, so that soon no new one is made.
+    """
+    factors = {residue(matrix(generator)) for generator in generators}
+    found = fresh = factors
+    while fresh:
+        fresh = {residue(product(m, factor)) for m in fresh for factor in factors} - found
+        found = found | fresh
+    return found
+
+
+def fails_modulo_7(generators, target):
+    """Is the target's image that of no product of one generator or more?"""
+    return residue(matrix(target)) not in residues(generators)
+
+
 # ---- the questions at the door
 
 LARGEST_ENTRY = 2147483647
@@ -373,6 +404,11 @@ def subgroup_verdict(generators, target, n, tables, room, inverse_room, cap=200_
     return first_signed_series(generators, word, n, cap=cap)
 
 
+def quick_no(generators, target):
+    """True for the quick no, and False where it is open."""
+    return fails_modulo_7(generators, asked_of_list(generators, target))
+
+
 def listed(letters, ends, target):
     """The generators of a list of letters with its ends: generator i runs from the end before it, or 0, up to its own end."""
     ask(7, len(ends) <= 64)
@@ -393,6 +429,10 @@ def list_reachable(letters, ends, target, tables, cap=200_000):
 
 def list_subgroup_verdict(letters, ends, target, n, tables, room, inverse_room, cap=200_000):
     return subgroup_verdict(listed(letters, ends, target), target, n, tables, room, inverse_room, cap)
+
+
+def list_quick_no(letters, ends, target):
+    return quick_no(listed(letters, ends, target), target)
 
 
 # The part of a factor that is not shown: the empty one at the start of the given slice.

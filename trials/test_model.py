@@ -1,6 +1,7 @@
 #!/usr/bin/env python3
 """Tests of trials/model.py: the worked values P1 to P12 of document 01, as 02 leaves them, and its edges, the laws that its ways of computing rest on, the
-pairs and triples that are erased, the first of the least series, verdicts without a bound, lists taken as subgroups, relations, and each question."""
+pairs and triples that are erased, the first of the least series, verdicts without a bound, lists taken as subgroups, relations, quick answers, and each
+question."""
 
 import itertools
 import os
@@ -471,6 +472,144 @@ class Relations(unittest.TestCase):
             self.assertEqual(in_subgroup(generators, b""), expected, generators)
 
 
+class Quick(unittest.TestCase):
+    """The quick no, which is given where the target's image modulo 7 is that of no product of one generator or more."""
+
+    # The points of the projective line over the field of 7 elements, each as (x : 1) or (1 : 0).
+    POINTS = [*((x, 1) for x in range(7)), (1, 0)]
+
+    def permuted(self, word):
+        """Where a word leads each point, as a row before its matrix. Only the unit and its negative keep all of them: so two words have the same image exactly
+        where they have the same permutation."""
+        (a, b, c, d), places = model.matrix(word), []
+        for x, y in self.POINTS:
+            x, y = (x * a + y * c) % 7, (x * b + y * d) % 7
+            places.append((x * pow(y, -1, 7) % 7, 1) if y else (1, 0))
+        return tuple(map(self.POINTS.index, places))
+
+    def permutations(self, generators):
+        """The permutations of all products of one generator or more."""
+        factors = set(map(self.permuted, generators))
+        found, level = set(factors), list(factors)
+        for before in level:
+            for factor in factors:
+                both = tuple(factor[place] for place in before)
+                if both not in found:
+                    found.add(both)
+                    level.append(both)
+        return found
+
+    def test_worked(self):
+        for answer, generators, target in (
+            (True, [b"SR"], b"R"),
+            # modulo 7, and only there, the inverse of SR is its sixth power
+            (False, [b"SR"], b"RSS"),
+            (False, [b"SR"], b"SR" * 40),
+            # a product has one factor or more
+            (True, [], b""),
+            (True, [], b"R"),
+            (False, [b"SSS"], b""),
+            (False, [b""], b"RSSSR"),
+            (True, [b""], b"R"),
+            (False, [b"S"], b""),
+            # modulo 7 SR to the seventh is the unit
+            (False, [b""], b"SR" * 7),
+            (False, [b"SR" * 7], b""),
+            (True, [b"SR" * 7], b"SR"),
+            # R and S make every element
+            (False, [b"R", b"S"], b"SSRSRSSR"),
+            # a target as a matrix
+            (False, [b"SR"], (1, -1, 0, 1)),
+            (True, [b"SR"], (-1, 0, -1, -1)),
+        ):
+            self.assertIs(model.quick_no(generators, target), answer, (generators, target))
+
+    def test_images(self):
+        """All matrices of determinant 1 modulo 7, and of the two signs the smaller one: R and S make each of them."""
+        entries = itertools.product(range(7), repeat=4)
+        images = sorted({min(m, tuple(-entry % 7 for entry in m)) for m in entries if model.determinant(m) % 7 == 1})
+        self.assertEqual(len(images), 168)
+        self.assertEqual(sorted(model.residues([b"R", b"S"])), images)
+        self.assertEqual(images.index(model.UNIT), 21)
+        self.assertEqual(model.residue(model.MATRIX_R), (0, 1, 6, 0))
+        self.assertEqual(model.residue(model.MATRIX_S), (1, 6, 1, 0))
+
+    def test_orders(self):
+        """How many images the products of a list have: of one element its order modulo 7, and of two each other order of a subgroup."""
+        for order, *generators in (
+            (0,),
+            (1, b""),
+            (1, b"SR" * 7),
+            (2, b"R"),
+            (3, b"S"),
+            (4, b"RSRSS"),
+            (6, b"SRSS", b"RSSRSR"),
+            (7, b"SR"),
+            (7, b"SSR"),
+            (8, b"R", b"SRSS"),
+            (12, b"RSRSSR", b"SSRSRS"),
+            (21, b"RSR", b"SRSRSS"),
+            (24, b"R", b"SRSRSS"),
+            (168, b"SR", b"SSR"),
+        ):
+            self.assertEqual(len(model.residues(generators)), order, generators)
+
+    def test_by_permutations(self):
+        """The same by the permutations of 8 points, for every target of up to 4 letters: all lists of up to 2 words of up to 3 letters, and random ones."""
+        chance = random.Random(10)
+        lists = [generators for count in range(3) for generators in itertools.product(words(3), repeat=count)]
+        lists += [chance.choices(words(7), k=chance.randint(1, 3)) for _ in range(100)]
+        noes = 0
+        for generators in lists:
+            found = self.permutations(generators)
+            self.assertEqual(len(model.residues(generators)), len(found), generators)
+            for target in words(4):
+                answer = model.fails_modulo_7(generators, target)
+                self.assertIs(answer, self.permuted(target) not in found, (generators, target))
+                noes += answer
+        self.assertGreater(noes, 1000)
+
+    def test_never_on_a_member(self):
+        """Nor on one of the list taken as a subgroup: so it is given only where all three verdicts are none."""
+        chance = random.Random(11)
+        choices = words(5)
+        noes = 0
+        for _ in range(400):
+            generators, target, n = chance.choices(choices, k=chance.randrange(4)), chance.choice(choices), chance.randrange(4)
+            if model.quick_no(generators, target):
+                noes += 1
+                self.assertIsNone(judged(generators, target, n), (generators, target))
+                self.assertFalse(reached(generators, target), (generators, target))
+                self.assertIsNone(in_subgroup(generators, target, n), (generators, target))
+        self.assertGreater(noes, 50)
+
+    def test_what_stays(self):
+        """Products in a finite group make inverses too: so the answer stays where a generator or the target is replaced by its inverse. It stays where the list
+        is written twice or conjugated with its target; and more generators are open wherever fewer are."""
+        chance = random.Random(12)
+        choices = words(6)
+        for _ in range(200):
+            generators = chance.choices(choices, k=chance.randint(1, 3))
+            target, more, by = (chance.choice(choices) for _ in range(3))
+            answer = model.quick_no(generators, target)
+            self.assertIs(model.quick_no([model.inverse(generators[0]), *generators[1:]], target), answer)
+            self.assertIs(model.quick_no(generators, model.inverse(target)), answer)
+            self.assertIs(model.quick_no(generators * 2, target), answer)
+            conjugated = [model.inverse(by) + word + by for word in [*generators, target]]
+            self.assertIs(model.quick_no(conjugated[:-1], conjugated[-1]), answer)
+            self.assertTrue(answer or not model.quick_no([*generators, more], target))
+
+    def test_gamma_0_of_7(self):
+        """The matrices of which 7 divides c, made by T and two elements of order 3. Whatever is the unit modulo 7 is one of them: so the quick no is given
+        exactly where 7 does not divide c. Modulo 7 T by itself makes those of them whose a is 1 or -1."""
+        generators = [b"SR", *(model.short_form(m) for m in ((3, -1, 7, -2), (5, -3, 7, -4)))]
+        self.assertEqual(len(model.residues(generators)), 21)
+        for target in words(10):
+            a, _, c, _ = model.matrix(target)
+            self.assertIs(model.quick_no(generators, target), c % 7 != 0, target)
+            self.assertIs(model.quick_no(generators[:1], target), c % 7 != 0 or a % 7 not in (1, 6), target)
+
+
 class Parts(unittest.TestCase):
     """Where the letters of a factor stand."""
 
@@ -607,6 +746,31 @@ class Questions(Asking):
         self.assert_refused(9, 2, model.list_subgroup_verdict, b"RSX", [1, 2], b"X", 1001, (0, 0), 0, 0)
         self.assert_refused(7, 0, model.list_subgroup_verdict, b"RSX", [1] * 65, b"X", 1001, (0, 0), 0, 0)
         self.assertEqual(model.list_subgroup_verdict(b"RSS", [2, 3], b"R", 3, (121, 121), 3, 640), [0, 129])
+
+    def test_quick_no(self):
+        long = b"RSS" * 27
+        self.assert_refused(7, 0, model.quick_no, [b"X"] * 65, b"X" * 4097)
+        self.assert_refused(8, 0, model.quick_no, [b"X" * 4096, b"X"], b"X")
+        self.assert_refused(8, 0, model.quick_no, [b"X"], b"X" * 4097)
+        self.assert_refused(10, 82, model.quick_no, [long, b"S"], b"X")
+        self.assert_refused(11, 1, model.quick_no, [b"", long], long)
+        self.assert_refused(11, 4, model.quick_no, [b"SR" * 40] * 4 + [b"S"], long)
+        self.assert_refused(12, 0, model.quick_no, [b"SR"], long)
+        self.assert_refused(12, 0, model.quick_no, [], long)
+        self.assert_refused(7, 0, model.list_quick_no, b"RSX", [1] * 65, b"X" * 4097)
+        self.assert_refused(8, 0, model.list_quick_no, b"RSX", [1, 0], b"X" * 4097)
+        self.assert_refused(9, 1, model.list_quick_no, b"RSX", [2, 1, 3], b"X")
+        self.assert_refused(9, 2, model.list_quick_no, b"RSX", [1, 2], b"X")
+        self.assert_refused(9, 0, model.list_quick_no, b"RSX", [], b"X")
+        self.assert_refused(10, 2, model.list_quick_no, b"RSX", [0, 3], b"X")
+        self.assert_refused(11, 0, model.list_quick_no, long, [81], long)
+        self.assert_refused(12, 0, model.list_quick_no, b"RSS", [2, 3], long)
+        self.assertIs(model.list_quick_no(b"SR", [2], b"R"), True)
+        self.assertIs(model.list_quick_no(b"SR", [1, 2], b"R"), False)
+        # what the limits let pass
+        self.assertIs(model.list_quick_no(b"", [0] * 64, b"R" * 4096), False)
+        self.assertIs(model.list_quick_no(b"R" * 4096, [4096], b"SR" * 40), True)
+        self.assertIs(model.list_quick_no(b"SR" * 160, [80, 160, 240, 320], b"SR"), False)
 
     def test_cards(self):
         matrix = bytes([4]) + b"".join(entry.to_bytes(8, "little", signed=True) for entry in (1, 2**31, 2**31, 1))

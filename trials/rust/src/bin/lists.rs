@@ -1,13 +1,15 @@
 //! Small lists, exhaustively: every list of up to 3 generators of up to 3 letters, every target of up to 6 letters and every bound up to 5. The library's
 //! verdict, its factors and what it does to the lent slices are held to a walk of the group by matrices, which keeps the first of each element's least series:
-//! the factors have to be just these. Every list is asked for every target without a bound too, and held to an automaton that reads all products. Prints what
-//! was tried, and `0 differ`; where something differs it prints the first of them and exits with 1.
+//! the factors have to be just these. Every list is asked for every target without a bound too, and held to an automaton that reads all products; and for the
+//! quick answer, which is held to the images of all products modulo 7, and is never a no where the automaton or the walk has a product. Prints what was tried,
+//! and `0 differ`; where something differs it prints the first of them and exits with 1.
 
-use kernelhop::lent::{judge, reachable, Judged};
+use kernelhop::lent::{judge, quick_no, reachable, Judged};
 use kernelhop_trials::{
     automaton::Automaton,
     lending::{begins_with, bytes, Tables},
     listing::{lists, List, Word},
+    residues::{images, Residue},
     walk::first_series,
     words::up_to,
 };
@@ -67,6 +69,8 @@ struct Tried {
     none: usize,
     /// The calls without a bound, by no and yes.
     unbounded: [usize; 2],
+    /// The quick answers, by open and no.
+    quick: [usize; 2],
     differ: usize,
 }
 
@@ -75,9 +79,13 @@ impl Tried {
         let list = List::new(generators);
         let found = first_series(&list.elements(), usize::from(BOUND));
         let automaton = automaton_of(&list);
+        let images = images(&list.elements());
         for target in targets {
             let first = found.get(&target.element).map(Vec::as_slice);
-            self.without_a_bound(&list, target, automaton.reads(&target.form), first);
+            let yes = automaton.reads(&target.form);
+            self.without_a_bound(&list, target, yes, first);
+            let no = !images.contains(&Residue::of(target.element));
+            self.at_once(&list, target, no, yes || first.is_some());
             for n in 0..=BOUND {
                 let first = first.filter(|series| series.len() <= usize::from(n));
                 match first {
@@ -105,6 +113,16 @@ impl Tried {
         }
     }
 
+    /// What the images say must be right of the library; and where the target is a product, they must not say no.
+    fn at_once(&mut self, list: &List, target: &Word, no: bool, is_product: bool) {
+        self.quick[usize::from(no)] += 1;
+        let answer = quick_no(&list.bytes, &list.ends, &target.letters);
+        if answer != Ok(no) || (no && is_product) {
+            let what = format!("the quick answer is {answer:?}; by the images {no}, and is the target a product: {is_product}");
+            self.differs(list, target, &what);
+        }
+    }
+
     /// Prints the first ten.
     fn differs(&mut self, list: &List, target: &Word, what: &str) {
         self.differ += 1;
@@ -116,15 +134,17 @@ impl Tried {
     fn print(&self, generators: usize, targets: usize) {
         let calls = self.none + self.members.iter().sum::<usize>();
         let [no, yes] = self.unbounded;
+        let [open, quick_no] = self.quick;
         println!(
             "lists of {generators}: {} tried, with {targets} targets and {} bounds each; {calls} calls, {} none, members by count from 1 {:?}, \
-             {} of them relations; without a bound {} calls, {no} no, {yes} yes; {} differ",
+             {} of them relations; without a bound {} calls, {no} no, {yes} yes; at once {} calls, {quick_no} quick no, {open} open; {} differ",
             self.lists,
             BOUND + 1,
             self.none,
             self.members,
             self.relations,
             no + yes,
+            quick_no + open,
             self.differ
         );
     }

@@ -1,14 +1,15 @@
 //! Small lists taken as subgroups, exhaustively: every generator of up to 6 letters, every 2 of up to 4 and every 3 of up to 2, with every target of up
 //! to 6 letters and every bound up to 4. The library's verdict, its factors and what it does to the lent slices are held to a walk of the group by matrices,
 //! with their inverses, which keeps the first of each element's least series; and for every list the letters of the factor of each number, after a verdict,
-//! to its words and to their inverses, reduced by erasing. Prints what was tried, and `0 differ`; where something differs it prints the first of them and exits
-//! with 1.
+//! to its words and to their inverses, reduced by erasing. The quick answer, which looks at no inverses, is held to the images of all products modulo 7, and is
+//! never a no where the walk has a series. Prints what was tried, and `0 differ`; where something differs it prints the first of them and exits with 1.
 
-use kernelhop::lent::{judge_subgroup, letters_of, Judged};
+use kernelhop::lent::{judge_subgroup, letters_of, quick_no, Judged};
 use kernelhop_trials::{
     erasing::{inverse, normal_form},
     lending::{begins_with, bytes, Tables},
     listing::{lists, List, Word},
+    residues::{images, Residue},
     walk::{first_signed_series, INVERSE},
     words::up_to,
 };
@@ -101,6 +102,8 @@ struct Tried {
     none: usize,
     /// The members that have an inverse among their factors.
     signed: usize,
+    /// The quick answers, by open and no.
+    quick: [usize; 2],
     differ: usize,
 }
 
@@ -108,9 +111,12 @@ impl Tried {
     fn list(&mut self, generators: &[&Word], targets: &[Word]) {
         let subgroup = Subgroup::new(generators);
         let found = first_signed_series(&subgroup.list.elements(), usize::from(BOUND));
+        let images = images(&subgroup.list.elements());
         let mut lent = Vec::new();
         for target in targets {
             let first = found.get(&target.element).map(Vec::as_slice);
+            let no = !images.contains(&Residue::of(target.element));
+            self.at_once(&subgroup.list, target, no, first);
             for n in 0..=BOUND {
                 let first = first.filter(|series| series.len() <= usize::from(n));
                 match first {
@@ -133,6 +139,18 @@ impl Tried {
         self.lists += 1;
     }
 
+    /// What the images say must be right of the library; and where the walk has a series, they must not say no.
+    fn at_once(&mut self, list: &List, target: &Word, no: bool, first: Option<&[u8]>) {
+        self.quick[usize::from(no)] += 1;
+        let answer = quick_no(&list.bytes, &list.ends, &target.letters);
+        if answer != Ok(no) || (no && first.is_some()) {
+            let what = format!(
+                "the quick answer is {answer:?}; by the images {no}, and the walk has {first:?}"
+            );
+            self.differs(list, target, &what);
+        }
+    }
+
     /// Prints the first ten.
     fn differs(&mut self, list: &List, target: &Word, what: &str) {
         self.differ += 1;
@@ -143,15 +161,17 @@ impl Tried {
 
     fn print(&self, (generators, letters): (usize, usize), targets: usize) {
         let calls = self.none + self.members.iter().sum::<usize>();
+        let [open, no] = self.quick;
         println!(
             "subgroups of {generators} generators of up to {letters} letters: {} tried, with {targets} targets and {} bounds each; {calls} calls, {} none, \
-             members by count from 1 {:?}, {} of them relations, {} with an inverse; {} differ",
+             members by count from 1 {:?}, {} of them relations, {} with an inverse; at once {} calls, {no} quick no, {open} open; {} differ",
             self.lists,
             BOUND + 1,
             self.none,
             self.members,
             self.relations,
             self.signed,
+            no + open,
             self.differ
         );
     }
