@@ -1,19 +1,21 @@
 //! Measures the proved verdict against the same method in plain Rust, in one process: both get the same calls in turn, and must give the same verdict and
 //! write the same factors. The verdict without a bound is measured in the same way, and beside the one with a bound; so is the signed one, which takes a list
-//! as a subgroup, beside the unsigned one on the same list and on the list with its inverses typed.
+//! as a subgroup, beside the unsigned one on the same list and on the list with its inverses typed; and the quick answer, beside the verdict that it spares.
 //!
-//!     kernelhop_benchmark agree             only holds the one to the other, on 20,000 small calls, and both to a walk of the group
-//!     kernelhop_benchmark ratios            the ratios on the largest calls, a line for each kind: with a bound, without, and signed
+//!     kernelhop_benchmark agree             only holds the one to the other, on 20,000 small calls, and both to a walk of the group and to all products
+//!                                           modulo 7
+//!     kernelhop_benchmark ratios            the ratios on the largest calls, a line for each kind: with a bound, without, signed, and the quick answer
 //!     kernelhop_benchmark PLOT FILE..       all tables in Markdown, and the plot: both of these and a walk of the group. Each file holds what `ratios` printed
 //!                                           where the functions were moved
 
 mod plot;
 mod reference;
 
-use kernelhop::lent::{judge, judge_subgroup, reachable, Judged, INVERSE, INVERSES};
+use kernelhop::lent::{judge, judge_subgroup, quick_no, reachable, Judged, INVERSE, INVERSES};
 use kernelhop_trials::{
     element::Element,
     erasing::{inverse, normal_form},
+    residues::{images, Residue},
     walk::{first_series, first_signed_series},
 };
 use reference::{Refusal, Verdict};
@@ -131,7 +133,16 @@ fn proved_half(call: &Call, lent: &mut Lent) -> Result<Verdict, Refusal> {
     ))
 }
 
-/// One of the eight above.
+/// The quick answer: whatever n is, and nothing is lent. True is the no.
+fn proved_quick(call: &Call, _: &mut Lent) -> Result<bool, Refusal> {
+    quick_no(&call.bytes, &call.ends, &call.target).map_err(numbered)
+}
+
+fn plain_quick(call: &Call, _: &mut Lent) -> Result<bool, Refusal> {
+    reference::quick_no(&call.bytes, &call.ends, &call.target)
+}
+
+/// One of the ten above.
 type Run<T> = fn(&Call, &mut Lent) -> Result<T, Refusal>;
 
 /// What is measured: a proved verdict, and the other beside it.
@@ -140,6 +151,7 @@ type Both<A, B> = (Run<A>, Run<B>);
 const BOUNDED: Both<Verdict, Verdict> = (proved, plain);
 const UNBOUNDED: Both<bool, bool> = (proved_unbounded, plain_unbounded);
 const SIGNED: Both<Verdict, Verdict> = (proved_signed, plain_signed);
+const QUICK: Both<bool, bool> = (proved_quick, plain_quick);
 const OVER_COUNTING: Both<Verdict, Verdict> = (proved, counted);
 /// They share the code of the rules, and are measured in the same rounds all the same: a ratio of two measurements would move with the machine. So it is with
 /// the next two, which share more.
@@ -147,6 +159,8 @@ const OVER_BOUNDED: Both<bool, Verdict> = (proved_unbounded, proved);
 const OVER_UNSIGNED: Both<Verdict, Verdict> = (proved_signed, proved);
 /// On a list with its inverses typed.
 const OVER_TYPED: Both<Verdict, Verdict> = (proved_half, proved);
+/// They share the questions and the reductions.
+const BOUNDED_OVER_QUICK: Both<Verdict, bool> = (proved, proved_quick);
 
 /// A list, a target and a bound.
 #[derive(Clone)]
@@ -232,19 +246,20 @@ fn call_of(generators: &[Vec<u8>], target: Vec<u8>, n: u16) -> Call {
     }
 }
 
-/// Lists of so many generators of so many letters, each with a target of 80.
-fn random_calls(generators: usize, letters: usize, n: u16) -> impl Iterator<Item = Call> {
+/// Lists of so many generators of so many letters, each with a target of t.
+fn random_calls(generators: usize, letters: usize, t: usize, n: u16) -> impl Iterator<Item = Call> {
     let mut random = Random(0x6b65726e656c);
     std::iter::repeat_with(move || {
         let list: Vec<_> = (0..generators)
             .map(|_| random.normal_word(letters))
             .collect();
-        call_of(&list, random.normal_word(80), n)
+        call_of(&list, random.normal_word(t), n)
     })
 }
 
 fn large_calls(lists: usize, generators: usize, letters: usize, n: u16) -> Vec<Call> {
-    random_calls(generators, letters, n).take(lists).collect()
+    let calls = random_calls(generators, letters, 80, n);
+    calls.take(lists).collect()
 }
 
 /// Up to 4 generators of up to 7 letters, a target of up to 12, and n up to 9. Five calls in 32 have an end, a letter, a witness, a table or an inverse slice
@@ -334,6 +349,11 @@ impl Call {
         let mut found = first_signed_series(&self.elements(), usize::from(self.n));
         found.remove(&Element::of_word(&self.target))
     }
+
+    /// Whether the target is none of the products modulo 7, all of which are made.
+    fn fails_modulo_7(&self) -> bool {
+        !images(&self.elements()).contains(&Residue::of(Element::of_word(&self.target)))
+    }
 }
 
 /// A verdict or a refusal, and a member's factors.
@@ -416,6 +436,28 @@ fn compare_unbounded(
     verdict
 }
 
+/// Whether a verdict finds a product.
+fn found(verdict: Result<Verdict, Refusal>) -> Result<bool, Refusal> {
+    verdict.map(|verdict| verdict != Verdict::None)
+}
+
+/// Both quick answers on one call. They are the same; where they are no, none of the verdicts finds a product. Of each verdict is given whether it does.
+fn compare_quick(call: &Call, verdicts: &[Result<bool, Refusal>]) -> Result<bool, Refusal> {
+    let mut nothing = Lent::new(0, 0);
+    let answer = proved_quick(call, &mut nothing);
+    assert_eq!(answer, plain_quick(call, &mut nothing));
+    for &verdict in verdicts {
+        match verdict {
+            Ok(true) => assert_eq!(answer, Ok(false)),
+            Ok(false) => assert!(answer.is_ok()),
+            // Questions 13 to 15 are about the bound and what is lent.
+            Err((13..=15, _)) => assert!(answer.is_ok()),
+            Err(refusal) => assert_eq!(answer, Err(refusal)),
+        }
+    }
+    answer
+}
+
 /// How many verdicts are members, and how many none.
 #[derive(Default)]
 struct Tally {
@@ -458,13 +500,24 @@ fn compare_small_signed(call: &Call, lent: &Lent) -> Result<Verdict, Refusal> {
     answer.verdict
 }
 
+/// Both quick answers on one call, and all products modulo 7.
+fn compare_small_quick(call: &Call, verdicts: &[Result<bool, Refusal>]) -> Result<bool, Refusal> {
+    let answer = compare_quick(call, verdicts);
+    if let Ok(no) = answer {
+        assert_eq!(no, call.fails_modulo_7());
+    }
+    answer
+}
+
 fn compare_small(calls: usize) {
     let mut random = Random(0x6b65726e656c);
     let (mut bounded, mut signed) = (Tally::default(), Tally::default());
     let (mut yes, mut no) = (0, 0);
+    let (mut quick_no, mut open) = (0, 0);
     for _ in 0..calls {
         let (call, lent) = small_call(&mut random);
-        signed.note(compare_small_signed(&call, &lent));
+        let in_subgroup = compare_small_signed(&call, &lent);
+        signed.note(in_subgroup);
         let answer = compare(&call, &lent);
         let unbounded = compare_unbounded(&call, &lent, answer.verdict);
         match unbounded {
@@ -477,8 +530,14 @@ fn compare_small(calls: usize) {
             n: 1000,
             ..call.clone()
         };
-        let within = counted(&widest, &mut lent.clone()).map(|verdict| verdict != Verdict::None);
+        let within = found(counted(&widest, &mut lent.clone()));
         assert_eq!(unbounded, within);
+        let verdicts = [found(answer.verdict), unbounded, found(in_subgroup)];
+        match compare_small_quick(&call, &verdicts) {
+            Ok(true) => quick_no += 1,
+            Ok(false) => open += 1,
+            Err(_) => {}
+        }
         bounded.note(answer.verdict);
         if answer.verdict.is_ok() {
             answer.must_be(call.walked());
@@ -495,6 +554,11 @@ fn compare_small(calls: usize) {
     println!(
         "Signed both agree on them too, with the inverses typed the unsigned ones, and for n up to {SIGNED_WALK} a walk of the group: {}.\n",
         signed.of(calls)
+    );
+    println!(
+        "The quick answers of both agree on them too, and all products modulo 7 say the same; where they are no, none of the three verdicts finds a product: \
+         {quick_no} no, {open} open, {} refused.\n",
+        calls - quick_no - open
     );
 }
 
@@ -541,37 +605,56 @@ struct Measured {
     ratio: f64,
 }
 
-/// The milliseconds of both on one call. The one that comes second finds the call in the cache.
-fn measure_call<A, B>(
-    call: &Call,
+/// The milliseconds of one of the two on some calls.
+fn measure_one<T>(calls: &[Call], run: Run<T>, lent: &mut Lent) -> f64 {
+    let calls = std::hint::black_box(calls);
+    timed(|| {
+        for call in calls {
+            let _ = std::hint::black_box(run(call, lent));
+        }
+    })
+}
+
+/// The milliseconds of both on some calls. The one that comes second finds the calls in the cache.
+fn measure_calls<A, B>(
+    calls: &[Call],
     (ours, theirs): Both<A, B>,
     lent: &mut Lent,
     ours_first: bool,
 ) -> (f64, f64) {
-    let call = std::hint::black_box(call);
     if ours_first {
-        let time = timed(|| ours(call, lent));
-        (time, timed(|| theirs(call, lent)))
+        let time = measure_one(calls, ours, lent);
+        (time, measure_one(calls, theirs, lent))
     } else {
-        let time = timed(|| theirs(call, lent));
-        (timed(|| ours(call, lent)), time)
+        let time = measure_one(calls, theirs, lent);
+        (measure_one(calls, ours, lent), time)
     }
 }
 
-/// How many rounds to measure at least, and for how many milliseconds.
+/// How many rounds to measure at least, and for how many milliseconds; and how many calls lie between two looks at the clock.
 struct Length {
     rounds: usize,
     milliseconds: f64,
+    together: usize,
 }
 
 const LONG: Length = Length {
     rounds: 5,
     milliseconds: 2000.0,
+    together: 1,
 };
 
 const SHORT: Length = Length {
     rounds: 3,
     milliseconds: 1000.0,
+    together: 1,
+};
+
+/// A look at the clock takes half a microsecond, and a quick answer a few.
+const TOGETHER: Length = Length {
+    rounds: 3,
+    milliseconds: 1000.0,
+    together: LISTS,
 };
 
 /// Rounds over all calls, each made once by a proved verdict and once by the other. One call made again and again takes less time than a job sees, which
@@ -582,8 +665,8 @@ fn measure<A, B>(calls: &[Call], both: Both<A, B>, length: Length, lent: &mut Le
     while sums.len() < length.rounds || now() - start < length.milliseconds {
         let ours_first = sums.len() % 2 == 0;
         let times = calls
-            .iter()
-            .map(|call| measure_call(call, both, lent, ours_first));
+            .chunks(length.together)
+            .map(|calls| measure_calls(calls, both, lent, ours_first));
         sums.push(times.fold((0.0, 0.0), |sum, time| (sum.0 + time.0, sum.1 + time.1)));
     }
     Measured {
@@ -667,7 +750,7 @@ fn kinds(lists: [usize; 4]) -> Vec<Kind> {
 fn typed_kinds() -> Vec<Kind> {
     let random = SHAPES.map(|(generators, letters)| Kind {
         name: format!("{} of {letters}", generators / 2),
-        calls: random_calls(generators / 2, letters, 1000)
+        calls: random_calls(generators / 2, letters, 80, 1000)
             .filter(Call::can_be_typed)
             .take(LISTS)
             .collect(),
@@ -677,11 +760,17 @@ fn typed_kinds() -> Vec<Kind> {
     random.into_iter().chain(powers).collect()
 }
 
-/// The ratios of the proved verdict to plain Rust on one kind.
+/// The calls of a kind again and again, until they are as many as there are lists of a shape: so a look at the clock is spread over as many.
+fn repeated(calls: &[Call]) -> Vec<Call> {
+    calls.iter().cycle().take(LISTS).cloned().collect()
+}
+
+/// The ratios of the proved verdict to plain Rust on one kind, and of the quick answer.
 struct Ratios {
     bounded: f64,
     unbounded: f64,
     signed: f64,
+    quick: f64,
 }
 
 fn print_ratios(lent: &mut Lent) {
@@ -689,7 +778,8 @@ fn print_ratios(lent: &mut Lent) {
         let bounded = measure(calls, BOUNDED, LONG, lent).ratio;
         let unbounded = measure(calls, UNBOUNDED, LONG, lent).ratio;
         let signed = measure(&signed.calls, SIGNED, SHORT, lent).ratio;
-        println!("{bounded:.4} {unbounded:.4} {signed:.4}");
+        let quick = measure(&repeated(calls), QUICK, TOGETHER, lent).ratio;
+        println!("{bounded:.4} {unbounded:.4} {signed:.4} {quick:.4}");
     }
 }
 
@@ -701,13 +791,14 @@ fn read_ratios(file: &str) -> Vec<Ratios> {
             .split(' ')
             .map(|ratio| ratio.parse().expect("a ratio"))
             .collect();
-        let [bounded, unbounded, signed] = ratios[..] else {
-            panic!("{line} is not three ratios");
+        let [bounded, unbounded, signed, quick] = ratios[..] else {
+            panic!("{line} is not four ratios");
         };
         Ratios {
             bounded,
             unbounded,
             signed,
+            quick,
         }
     };
     text.lines().map(read).collect()
@@ -860,6 +951,72 @@ fn against_typing(lent: &mut Lent) {
     println!();
 }
 
+/// How many of these get the quick no. What gets it is none with a bound, as `answers` say.
+fn quick_noes(calls: &[Call], answers: &[Answer]) -> usize {
+    let no = |(call, answer): &(&Call, &Answer)| {
+        compare_quick(call, &[found(answer.verdict)]) == Ok(true)
+    };
+    calls.iter().zip(answers).filter(no).count()
+}
+
+/// Prints the table of the quick answer. The last ratio is that of the proved verdict to it, so how many times less it takes.
+fn at_once(kinds: &[Kind], lent: &mut Lent, moved: &[Vec<Ratios>]) {
+    println!("| generators | calls | no | proved, µs | plain Rust, µs | ratios | mean | n 1000 over it |");
+    println!("|---|---|---|---|---|---|---|---|");
+    for (i, Kind { name, calls }) in kinds.iter().enumerate() {
+        let no = quick_noes(calls, &compare_all(calls, lent));
+        let Measured {
+            proved,
+            other,
+            ratio,
+        } = measure(&repeated(calls), QUICK, TOGETHER, lent);
+        let over_it = measure(calls, BOUNDED_OVER_QUICK, TOGETHER, lent).ratio;
+        println!(
+            "| {name} | {} | {no} | {:.2} | {:.2} | {} | {over_it:.0} |",
+            calls.len(),
+            proved * 1e3,
+            other * 1e3,
+            cells(ratio, moved.iter().map(|ratios| ratios[i].quick))
+        );
+    }
+    println!();
+}
+
+/// How many queries are asked of each of these shapes, with targets of how many letters, to count which get the quick no.
+const QUERIES: usize = 500;
+const QUERY_TARGET: usize = 20;
+const QUERY_SHAPES: [(usize, usize); 9] = [
+    (1, 5),
+    (1, 10),
+    (1, 20),
+    (2, 5),
+    (2, 10),
+    (2, 20),
+    (3, 5),
+    (3, 10),
+    (3, 20),
+];
+
+/// Prints how many random queries are none, and how many of these get the quick no.
+fn random_queries() {
+    println!("| generators | queries | none | quick no | of the none |");
+    println!("|---|---|---|---|---|");
+    for (generators, letters) in QUERY_SHAPES {
+        let calls: Vec<_> = random_calls(generators, letters, QUERY_TARGET, 1000)
+            .take(QUERIES)
+            .collect();
+        let q = generators * letters + 2 * QUERY_TARGET + 1;
+        let answers = compare_all(&calls, &Lent::new(q * q, 1000));
+        let none = QUERIES - counts(&answers).len();
+        let no = quick_noes(&calls, &answers);
+        println!(
+            "| {generators} of {letters} | {QUERIES} | {none} | {no} | {:.2} |",
+            no as f64 / none as f64
+        );
+    }
+    println!();
+}
+
 /// Times over those of plain Rust that only counts. `ratios` are those of the proved verdict to plain Rust.
 fn over_counting(kinds: &[Kind], lent: &mut Lent, ratios: &[f64]) {
     println!("Counting is plain Rust without the witness. For `none` up to {FEW} of the calls have n one below the least count, where there is a series.\n");
@@ -991,6 +1148,10 @@ fn main() {
     growth("m", [80, 160, 320], calls_of_m, over_unsigned, &mut lent);
     println!("## Signed beside the same list with its inverses typed: t 80, n 1000\n");
     against_typing(&mut lent);
+    println!("## The quick no on the same calls, and the proved verdict with n 1000 over it\n");
+    at_once(&all, &mut lent, &moved);
+    println!("## How many random queries get the quick no: t {QUERY_TARGET}, none with n 1000\n");
+    random_queries();
     println!("## What the choice of the first series costs: times over that of counting\n");
     over_counting(&all, &mut lent, &ratios);
     println!("## Milliseconds of the proved verdict as m grows: t 80, n 1000\n");

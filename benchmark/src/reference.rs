@@ -1,14 +1,16 @@
 //! The bounded verdict in plain Rust, by the same method as the proved one: the questions, the reduced list, the tree of suffixes, the table of
 //! pairs filled by levels, the target's rows, the witness chosen among the entries that the target needs, and the zeroing. What the proved one passes
 //! over is passed over here too: rows without an entry of the level, a level that no entry lies above, rules that cannot lower anything, rows of choices
-//! where nothing is to be done. The verdict without a bound, made of the same parts, is in `closing`, and the signed one in `signing`. It proves nothing; it is
-//! what the benchmark measures against.
+//! where nothing is to be done. The verdict without a bound, made of the same parts, is in `closing`, and the signed one in `signing`; the quick answer, which
+//! shares only the questions and the reduced list, is in `residues`. It proves nothing; it is what the benchmark measures against.
 
 mod closing;
+mod residues;
 mod signing;
 mod witness;
 
 pub use closing::reachable;
+pub use residues::quick_no;
 pub use signing::judge_signed;
 use witness::Counts;
 
