@@ -1,5 +1,6 @@
 // The products of some images: an image is marked when it is one, and stands in the queue from then on. Each in the queue is multiplied on its left by each
 // image that is taken in, once, by a look into that image's row.
+use crate::table::MATRICES;
 use crate::table::fill_row;
 use crate::table::wide;
 ghost use mathlib.Core.Path.{_≡_};
@@ -28,7 +29,7 @@ fn product(rows: &[u8], b: usize, k: u8) -> u8
     requires { ⌜ b * 168 + 168 ≤ length (now rows) ⌝ }
     ensures { λ r. ⌜ r ≡ getD (now (rows .entry)) (b * 168 + k) 0 ⌝ }
 {
-    rows[b * 168 + wide(k)]
+    rows[b * MATRICES + wide(k)]
 }
 
 // Multiplies image i of the queue by those taken in, from image `from` up to the last.
@@ -133,7 +134,7 @@ pub(crate) fn take_in(
     if visited[wide(image)] != 0 {
         return Sizes { taken, count };
     }
-    fill_row(image, rows, taken * 168);
+    fill_row(image, rows, taken * MATRICES);
     let more = visit(image, visited, queue, count);
     let all = close(rows, taken + 1, count, target, visited, queue, more);
     Sizes {

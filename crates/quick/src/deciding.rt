@@ -3,6 +3,7 @@
 use crate::Quick;
 use crate::closing::Sizes;
 use crate::closing::take_in;
+use crate::table::MATRICES;
 use crate::table::image_of;
 use crate::table::wide;
 use limits::GENERATORS;
@@ -26,8 +27,8 @@ ghost use Rattle.quick.specs.Questions.{ofForms};
 ghost use Rattle.quick.specs.Calls.{QuickRight, AnsweredBy};
 ghost use Rattle.quick.specs.Closing.{toldBy};
 
-// Room for the rows of 64 images.
-const ROWS: usize = 10752;
+// Room for the rows of all generators' images.
+const ROWS: usize = GENERATORS * MATRICES;
 
 // The answer by the target's mark.
 fn told(mark: u8) -> Quick
@@ -46,8 +47,8 @@ fn answer_images(bytes: &[u8], ends: &[u16], target: u8) -> Quick
     ensures { λ r. ⌜ ((w : Word) → target ≡ image w → QuickRight (generators (now (bytes .entry)) (now (ends .entry))) w r) ⌝ }
 {
     let mut rows = [0u8; ROWS];
-    let mut visited = [0u8; 168];
-    let mut queue = [0u8; 168];
+    let mut visited = [0u8; MATRICES];
+    let mut queue = [0u8; MATRICES];
     let mut sizes = Sizes { taken: 0, count: 0 };
     let mut from: usize = 0;
     let mut i = 0;

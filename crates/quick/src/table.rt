@@ -8,8 +8,10 @@ ghost use Rattle.words.specs.Bytes.{letter, word};
 ghost use Rattle.residues.specs.Residues.{image, timesLetter, multiplied};
 ghost use Rattle.quick.specs.Table.{column, letterOf, parentOf, columnOf, Fills};
 
-// How many matrices there are, and which one is the unit.
+// How many matrices there are, how many besides the unit, and which one that is.
 pub(crate) const MATRICES: usize = 168;
+
+const OTHERS: usize = MATRICES - 1;
 
 const UNIT: u8 = 21;
 
@@ -355,7 +357,7 @@ const PRODUCTS: [u8; 336] = [
 
 // A tree of all matrices with the unit as its root: the others one after the other, each by the matrix that it is a product of, which comes before it, and by
 // the letter, 0 for R and 1 for S.
-const PARENTS: [u8; 167] = [
+const PARENTS: [u8; OTHERS] = [
     21,
     21,
     0,
@@ -525,7 +527,7 @@ const PARENTS: [u8; 167] = [
     14,
 ];
 
-const LAST_LETTERS: [u8; 167] = [
+const LAST_LETTERS: [u8; OTHERS] = [
     0,
     1,
     1,
@@ -758,7 +760,7 @@ pub(crate) fn fill_row(image: u8, rows: &mut [u8], at: usize)
 {
     rows[at + wide(UNIT)] = image;
     let mut i = 0;
-    while i < 167 {
+    while i < OTHERS {
         let parent = parent_of(i);
         let column = last_letter_of(i);
         let child = times_letter(parent, column);
