@@ -7,9 +7,9 @@ use native.Mathlib.Numerals.{add-one}
 use lib.ListN.{length, drop, getD, drop-of-length-le}
 use lib.Seq.{drop-cons}
 use Rattle.words.specs.Bytes.{letter, word}
-use Rattle.residues.specs.Residues.{image, timesLetter, walked}
+use Rattle.residues.specs.Residues.{image, timesLetter}
 use Rattle.residues.proofs.Numbering.{times-letter-small}
-use Rattle.residues.proofs.Images.{walked-image}
+use Rattle.residues.proofs.Images.{walked, walked-image}
 use Rattle.quick.specs.Table.{column, letterOf}
 use Rattle.quick.proofs.Tables.{unit-21, letter-of-column}
 

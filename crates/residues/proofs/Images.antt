@@ -18,8 +18,13 @@ use Rattle.unimodular.proofs.Product.{times-assoc, times-unit, unit-times, matr
 use Rattle.unimodular.proofs.Faithful.{matrix-of-equal}
 use Rattle.unimodular.proofs.Descent.{normal-form-exists}
 use Rattle.products.specs.Product.{Family, spelled}
-use Rattle.residues.specs.Residues.{Agree, numbering, quadruples, numberOf, numbered, image, timesLetter, multiplied, imageOf, walked}
+use Rattle.residues.specs.Residues.{Agree, numbering, quadruples, numberOf, numbered, image, timesLetter, multiplied, imageOf}
 use Rattle.residues.proofs.Numbering.{agree-sign, agree-sym, agree-trans, agree-times, Shows, shows-number, number-shows, shows-agree, shows-times-letter}
+
+-- a word's letters on the right, one after the other
+abbrev pub walked : ℕ → Word → ℕ
+walked k [] = k
+walked k (x ∷ w) = walked (timesLetter k x) w
 
 unit-small : numberOf unit < 168
 unfolding numberOf numbering quadruples flatMap

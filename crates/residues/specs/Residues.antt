@@ -88,11 +88,6 @@ image w = numberOf (matrixOf w)
 unfoldable pub timesLetter : ℕ → Letter → ℕ
 timesLetter k x = numberOf (times (numbered k) (matrixOfLetter x))
 
--- a word's letters on the right, one after the other
-abbrev pub walked : ℕ → Word → ℕ
-walked k [] = k
-walked k (x ∷ w) = walked (timesLetter k x) w
-
 -- the product of two images, and of a series of them
 unfoldable pub multiplied : ℕ → ℕ → ℕ
 multiplied j k = numberOf (times (numbered j) (numbered k))
