@@ -21,7 +21,7 @@ use Rattle.cards.specs.Reading.{Listed, SomeListed, FlatRight, Flattens}
 use Rattle.cards.specs.declared.flattening.Flat.{Flat}
 use Rattle.cards.specs.declared.flattening.Flat.TheVariants.{Letters as Flat-as-Letters, Refused as Flat-as-Refused}
 use Rattle.cards.proofs.ListBytes.{list_ends_length}
-use Rattle.cards.proofs.GeneratorFields.{listed-count}
+use Rattle.cards.proofs.GeneratorFields.{listed_count}
 
 -- The list's letters and its ends stand in the fronts of two slices, for which there is room enough where questions 7 and 8 are answered yes.
 pub record InFronts (list : List (List ℕ)) (count total : ℕ) (letters ends : List ℕ) : Type 0 where
@@ -68,7 +68,7 @@ module _ (list : List (List ℕ)) (before after before_ends after_ends : List �
 module _ (card : List ℕ) (start count : ℕ) (before after before_ends after_ends : List ℕ) (r : Flat)
     (h : (list : List (List ℕ)) → Listed card start count list → Flattens list r before after before_ends after_ends) {total : Letters} (e : r ≡ Flat-as-Letters total) where
   pub listed_fronts : (list : List (List ℕ)) → Listed card start count list → InFronts list count total.0 after after_ends
-  listed_fronts list listed = flat_fronts list before after before_ends after_ends r (h list listed) (listed-count card start count listed) e
+  listed_fronts list listed = flat_fronts list before after before_ends after_ends r (h list listed) (listed_count card start count listed) e
 
   pub fronts_fit : SomeListed card start count → length after ≡ most_letters → length after_ends ≡ most_generators → (total.0 ≤ length after) × (count ≤ length after_ends)
   fronts_fit (list, listed) room room_ends = let f = listed_fronts list listed in (omega (arith, f.short), omega (arith, f.few))

@@ -13,7 +13,7 @@ use Rattle.refusals.specs.declared.Asked.TheVariants.{Passed, Refused}
 use Rattle.unimodular.specs.Matrix.{Matrix}
 use Rattle.unimodular.proofs.Descent.{normal_form_exists}
 use Rattle.matrices.specs.Questions.{of_entries}
-use Rattle.matrices.proofs.Range.{passed-determinant}
+use Rattle.matrices.proofs.Range.{passed_determinant}
 use Rattle.products.specs.Product.{Family, generators, plain}
 use Rattle.lists.specs.NormalList.{total}
 use Rattle.sizes.specs.Questions.{side}
@@ -21,11 +21,11 @@ use Rattle.engine.specs.Questions.{of_product}
 use Rattle.engine.specs.Calls.{Lent, VerdictRight, Judged}
 use Rattle.engine.specs.declared.Verdict.{Verdict}
 use Rattle.engine.specs.declared.Verdict.TheVariants.{Member, None, Refused as Verdict-as-Refused}
-use Rattle.engine.proofs.Relations.{member-counts}
+use Rattle.engine.proofs.Relations.{member_counts}
 use Rattle.fields.specs.Field.{Read, Whole, Cut}
 use Rattle.answers.specs.Calls.{witnessed}
 use Rattle.answers.specs.declared.Answer.{Answer}
-use Rattle.answers.proofs.Members.{member-witnessed}
+use Rattle.answers.proofs.Members.{member_witnessed}
 use Rattle.cards.specs.Card.{Target, Letters, Entries, Card, card_of, list_bytes, list_ends}
 use Rattle.cards.specs.Questions.{of_map}
 use Rattle.cards.specs.Calls.{Refuses, answer_of, AnswersProduct, AnswersMatrix, AnswersTarget, AnswersRead, AnswersMapped, AnswersCard}
@@ -37,7 +37,7 @@ module _ (before after : Lent) where
   right_witnessed family target n (Member count) right =
       let long = ap length (take-append-drop count.0 after.witness) in
       let sum = length-append (take count.0 after.witness) (drop count.0 after.witness) in
-      member-witnessed count after.witness (member-counts family target before.witness after.witness n count right)
+      member_witnessed count after.witness (member_counts family target before.witness after.witness n count right)
       (omega (arith, right.0.counts))
   right_witnessed family target n None right = refl
   right_witnessed family target n (Verdict-as-Refused refusal) right = refl
@@ -66,7 +66,7 @@ module _ (before after : Lent) where
     matrix_witnessed : (asked : Asked) (n : ℕ) (m : Matrix) (list : List (List ℕ)) → of_entries m ≡ asked → AnswersMatrix asked n m list r before after → HasFactors
     matrix_witnessed (Refused refusal) n m list e answers = refusal_witnessed refusal answers
     matrix_witnessed Passed n m list e answers =
-        let (w, form) = normal_form_exists m (passed-determinant m e) in product_witnessed n [] w list (answers w form)
+        let (w, form) = normal_form_exists m (passed_determinant m e) in product_witnessed n [] w list (answers w form)
 
     target_witnessed : (n : ℕ) (target : Target) (list : List (List ℕ)) → AnswersTarget n target list r before after → HasFactors
     target_witnessed n (Letters letters) list answers = product_witnessed n letters _ list answers

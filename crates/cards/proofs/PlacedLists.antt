@@ -16,7 +16,7 @@ use Rattle.cards.specs.Reading.{SkippedTo, ListIs}
 use Rattle.cards.specs.declared.reading.Skipped.{Skipped}
 use Rattle.cards.specs.declared.reading.Skipped.TheVariants.{To, Cut as Skipped-as-Cut}
 use Rattle.cards.specs.declared.reading.ListAt.TheVariants.{Whole as ListAt-as-Whole, Cut as ListAt-as-Cut}
-use Rattle.cards.proofs.AnsweredFields.{no-letters, letters-said, no-list, list-said}
+use Rattle.cards.proofs.AnsweredFields.{no_letters, letters_said, no_list, list_said}
 use Rattle.cards.proofs.WholeReads.{IfWhole, Counted, generators_counted}
 
 -- ---- passing over one generator
@@ -41,11 +41,11 @@ module _ (card : List ℕ) (count at : ℕ) where
 
   module _ (left fewer end : ℕ) (n : left ≡ suc fewer) (now : Remaining left end) {s : Span} (said : SpanOf card (letters_field (drop end card)) s) where
     pub one_cut : s ≡ Span-as-Cut → OfAll Skipped-as-Cut
-    one_cut c = now.1 Skipped-as-Cut (rw (n, no-letters card (letters_field (drop end card)) said c) refl)
+    one_cut c = now.1 Skipped-as-Cut (rw (n, no_letters card (letters_field (drop end card)) said c) refl)
 
     pub one_passed : {start behind : ℕ} → s ≡ Span-as-Whole start behind → Remaining fewer behind
     one_passed {start} {behind} w =
-        let (field, order, fits) = letters-said card (letters_field (drop end card)) said w in
+        let (field, order, fits) = letters_said card (letters_field (drop end card)) said w in
         (fits, λ r h. now.1 r (rw (n, field) (skipped_front card _ (generator_fields fewer (drop behind card)) r h)))
 
 -- ---- a list behind its number
@@ -57,11 +57,11 @@ module _ (card : List ℕ) (at : ℕ) where
   module _ (count start : ℕ) (number : number_field 1 (drop at card) ≡ Whole count (drop start card)) {s : Skipped}
       (said : SkippedTo card (generator_fields count (drop start card)) s) where
     pub list_cut : s ≡ Skipped-as-Cut → ListIs card (counted_list (drop at card)) ListAt-as-Cut
-    list_cut c = rw (number, no-list card (generator_fields count (drop start card)) said c) refl
+    list_cut c = rw (number, no_list card (generator_fields count (drop start card)) said c) refl
 
     pub list_whole : {end : ℕ} → start ≤ length card → s ≡ To end → ListIs card (counted_list (drop at card)) (ListAt-as-Whole count start end)
     list_whole {end} begins w =
-        let (list, field, fits) = list-said card (generator_fields count (drop start card)) said w in
+        let (list, field, fits) = list_said card (generator_fields count (drop start card)) said w in
         let (many, shorter) = subst (IfWhole (Counted count (drop start card))) field (generators_counted count (drop start card)) in
         let order : start ≤ end = omega (arith, length-drop start card, length-drop end card) in
         rw (number, field) (start, end, rw many refl, rw many field, order, (fits, refl))

@@ -9,7 +9,7 @@ use lib.ListN.{length, drop, set, length-append}
 use lib.Seq.{paste}
 use Rattle.limits.specs.Limits.{most_letters}
 use Rattle.slices.specs.Slices.{overwritten}
-use Rattle.slices.proofs.Slices.{front-pasted, front-stored}
+use Rattle.slices.proofs.Slices.{front_pasted, front_stored}
 use Rattle.fields.specs.Field.{Whole}
 use Rattle.cards.specs.Card.{generator_fields, list_bytes, list_ends}
 use Rattle.cards.specs.Reading.{Listed}
@@ -95,10 +95,10 @@ module _ {card : List ℕ} {count : ℕ} {list : List (List ℕ)} {old old_ends 
             long = omega (arith, ap length bytes, length-append (list_bytes p.done) g, p.long, pushed.answer);
             letters_are =
                 pushed.letters ∙ ap (λ (l : List ℕ). paste l sum g r) p.letters_are
-                ∙ front-pasted (list_bytes p.done) old sum p.long g r (sym pushed.answer) ∙ ap (λ (l : List ℕ). overwritten l old) (sym bytes);
+                ∙ front_pasted (list_bytes p.done) old sum p.long g r (sym pushed.answer) ∙ ap (λ (l : List ℕ). overwritten l old) (sym bytes);
             ends_are =
                 pushed.ends ∙ ap (λ (l : List ℕ). set l i (sum + r)) p.ends_are
-                ∙ front-stored (list_ends 0 p.done) old_ends i behind (sum + r) room ∙ ap (λ (l : List ℕ). overwritten l old_ends) (sym its_ends);
+                ∙ front_stored (list_ends 0 p.done) old_ends i behind (sum + r) room ∙ ap (λ (l : List ℕ). overwritten l old_ends) (sym its_ends);
           }
 
   pub pushing_over : i ≡ count → WritesList list old letters old_ends ends

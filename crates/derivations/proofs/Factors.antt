@@ -17,14 +17,14 @@ use Rattle.products.specs.Product.{generator, Factor, measure}
 use Rattle.products.specs.State.{suffix}
 use Rattle.products.proofs.Firsts.{Fit, whole, part}
 use Rattle.trees.specs.Tree.{at, word_at}
-use Rattle.trees.proofs.Nodes.{node_number, node-number-at}
-use Rattle.rows.proofs.WordRows.{root-number}
+use Rattle.trees.proofs.Nodes.{node_number, node_number_at}
+use Rattle.rows.proofs.WordRows.{root_number}
 use Rattle.derivations.specs.declared.Parts.{Parts}
 use Rattle.derivations.specs.declared.Parts.TheVariants.{One, Two, Nothing}
 use Rattle.derivations.specs.Derivations.{Tight}
 use Rattle.derivations.specs.Ways.{World, weight_in, by_factor}
 use Rattle.derivations.specs.Query.{Query}
-use Rattle.derivations.proofs.Nodes.{entry_at, node_inside, node-once, entry-some, node-state, pair-weight, pair-some, factor-weight}
+use Rattle.derivations.proofs.Nodes.{entry_at, node_inside, node_once, entry_some, node_state, pair_weight, pair_some, factor_weight}
 
 abbrev pub by_factor_in : World → ℕ → ℕ → Parts
 by_factor_in w y d = by_factor w.wholes w.counts y d
@@ -41,7 +41,7 @@ module _ {gens words : List Word} {n : ℕ} {w : World} (query : Query gens word
   root_inside = omega (arith, query.tree.shape.some, query.size)
 
   root_node : node_number words [] ≡ 0
-  root_node = root-number gens words w.count n w.letters w.rests w.children_r w.children_s w.wholes w.counts query.tree query.size
+  root_node = root_number gens words w.count n w.letters w.rests w.children_r w.children_s w.wholes w.counts query.tree query.size
 
   whole_inside : (d : ℕ) → Factor gens d → at w.wholes d < w.count
   whole_inside d f = omega (arith, query.tree.shape.whole_inside d (omega (arith, query.tree.wholes_count)), query.size)
@@ -50,10 +50,10 @@ module _ {gens words : List Word} {n : ℕ} {w : World} (query : Query gens word
     -- node 0's entries come first in the table
     root_entry : at w.counts y ≡ entry_at words w [] (word_at words y)
     root_entry =
-        rw (root_node, node-number-at query.tree y (node_inside query y k)) (ap (at w.counts) (omega arith))
+        rw (root_node, node_number_at query.tree y (node_inside query y k)) (ap (at w.counts) (omega arith))
 
     pub root_weight : weight_in w 1 y ≡ entry_at words w [] (word_at words y)
-    root_weight = pair-weight query 0 y root_inside k ∙ ap (λ (u : Word). entry_at words w u (word_at words y)) query.tree.root
+    root_weight = pair_weight query 0 y root_inside k ∙ ap (λ (u : Word). entry_at words w u (word_at words y)) query.tree.root
 
     pub fitting : (d : ℕ) → Fitting gens words w y d (by_factor_in w y d)
     fitting d =
@@ -78,22 +78,22 @@ module _ {gens words : List Word} {n : ℕ} {w : World} (query : Query gens word
     -- what leads on from a factor weighs its generator's entry
     whole_weight : (d : ℕ) → Factor gens d → weight_in w (suc (at w.wholes d)) y ≡ entry_at words w (generator gens d) (word_at words y)
     whole_weight d f =
-        pair-weight query (at w.wholes d) y (whole_inside d f) k ∙ ap (λ (u : Word). entry_at words w u (word_at words y)) (query.tree.whole d f)
+        pair_weight query (at w.wholes d) y (whole_inside d f) k ∙ ap (λ (u : Word). entry_at words w u (word_at words y)) (query.tree.whole d f)
 
     pub parts_sum : (d : ℕ) → Factor gens d → weight_in w 0 d + weight_in w (suc (at w.wholes d)) y ≡ weight_in w 1 y
         → measure (d ∷ []) + entry_at words w (generator gens d) (word_at words y) ≡ entry_at words w [] (word_at words y)
-    parts_sum d f sum = omega (arith, whole_weight d f, root_weight, factor-weight query d f)
+    parts_sum d f sum = omega (arith, whole_weight d f, root_weight, factor_weight query d f)
 
     pub fit_tight : (d : ℕ) → Fit gens measure (entry_at words w) (word_at words y) d → Tight (weight_in w) 1 y (by_factor_in w y d)
     fit_tight d (whole f e one) =
-        let node : at w.wholes d ≡ y = node-once query (at w.wholes d) y (whole_inside d f) k (query.tree.whole d f ∙ e) in
+        let node : at w.wholes d ≡ y = node_once query (at w.wholes d) y (whole_inside d f) k (query.tree.whole d f ∙ e) in
         rw (lt-ltb d (length w.wholes) (omega (arith, query.tree.wholes_count)), eq-eqb (at w.counts y) 1 (root_entry ∙ sym one))
-        (rw (eq-eqb (at w.wholes d) y node) (omega arith, omega (arith, factor-weight query d f), factor-weight query d f ∙ one ∙ sym root_weight))
+        (rw (eq-eqb (at w.wholes d) y node) (omega arith, omega (arith, factor_weight query d f), factor_weight query d f ∙ one ∙ sym root_weight))
     fit_tight d (part f sum) =
-        let some = entry-some query (generator gens d) (word_at words y) (suffix d [] f refl) (node-state query y k) in
+        let some = entry_some query (generator gens d) (word_at words y) (suffix d [] f refl) (node_state query y k) in
         let more : at w.counts y ≡ 1 → ⊥ = λ e. omega (arith, root_entry) in
         rw (lt-ltb d (length w.wholes) (omega (arith, query.tree.wholes_count)), ne_eqb (at w.counts y) 1 more) (
-          omega (arith, factor-weight query d f),
-          pair-some query (at w.wholes d) y (whole_inside d f) k,
-          omega (arith, whole_weight d f, root_weight, factor-weight query d f),
+          omega (arith, factor_weight query d f),
+          pair_some query (at w.wholes d) y (whole_inside d f) k,
+          omega (arith, whole_weight d f, root_weight, factor_weight query d f),
         )

@@ -14,16 +14,16 @@ use Rattle.words.specs.Word.{Letter, R, S, Word}
 use Rattle.words.specs.Bytes.{byte}
 use Rattle.refusals.specs.Telling.{pick}
 use Rattle.products.specs.State.{State}
-use Rattle.products.proofs.States.{NotS, state-tail}
+use Rattle.products.proofs.States.{NotS, state_tail}
 use Rattle.products.proofs.Halves.{Halves, through, across}
 use Rattle.trees.specs.Tree.{at, word_at}
-use Rattle.trees.proofs.Nodes.{begins-letter}
+use Rattle.trees.proofs.Nodes.{begins_letter}
 use Rattle.derivations.specs.declared.Parts.{Parts}
 use Rattle.derivations.specs.declared.Parts.TheVariants.{Two, Nothing}
 use Rattle.derivations.specs.Ways.{World, halves}
 use Rattle.derivations.specs.Query.{Query}
-use Rattle.derivations.proofs.Nodes.{child_in, Begins, initial, differing, not_s, not_s_other, begins, begins-so, begins-other, letter-of, rest_earlier}
-use Rattle.derivations.proofs.Nodes.{child-inside, child-word, child-state, state-child, node_inside, node-state, node-of-state}
+use Rattle.derivations.proofs.Nodes.{child_in, Begins, initial, differing, not_s, not_s_other, begins, begins_so, begins_other, letter_of, rest_earlier}
+use Rattle.derivations.proofs.Nodes.{child_inside, child_word, child_state, state_child, node_inside, node_state, node_of_state}
 
 abbrev pub halves_in : World → ℕ → ℕ → ℕ → Parts
 halves_in w p y d = halves w.letters w.rests w.children_r w.children_s w.count p y d
@@ -55,7 +55,7 @@ module _ {gens words : List Word} {n : ℕ} {w : World} (query : Query gens word
   passing a v e i =
       elim (ℕ_discrete (child_in w a v) 0) [
         | yes z ↦ rw (eq-eqb (child_in w a v) 0 z) none
-        | no z ↦ rw (ne_eqb (child_in w a v) 0 z) (both p v v y h i i k (rw e (through (child-state query a v i z))))
+        | no z ↦ rw (ne_eqb (child_in w a v) 0 z) (both p v v y h i i k (rw e (through (child_state query a v i z))))
       ]
 
   crossing_child : (v : ℕ) → word_at words p ≡ S ∷ word_at words rest → NotS (word_at words rest) → v < w.count → (v ≡ 0 → ⊥)
@@ -66,10 +66,10 @@ module _ {gens words : List Word} {n : ℕ} {w : World} (query : Query gens word
         | yes z ↦ rw (eq-eqb (child_in w S y) 0 z) none
         | no z ↦
             let behind : at w.rests v < w.count = omega (arith, rest_earlier query v some' i) in
-            let front : State gens (S ∷ word_at words (at w.rests v)) = rw e' at (node-state query v i) in
+            let front : State gens (S ∷ word_at words (at w.rests v)) = rw e' at (node_state query v i) in
             rw (ne_eqb (child_in w S y) 0 z)
-            (both rest v (at w.rests v) (child_in w S y) rest_inside i behind (child-inside query S y k)
-            (rw (e, e', child-word query S y k z) (across no_s front (child-state query S y k z))))
+            (both rest v (at w.rests v) (child_in w S y) rest_inside i behind (child_inside query S y k)
+            (rw (e, e', child_word query S y k z) (across no_s front (child_state query S y k z))))
       ]
 
   crossing : (a : Letter) (v : ℕ) → word_at words p ≡ a ∷ word_at words rest → v < w.count → {t t' : Bool} → Begins words w S rest t → Begins words w S v t'
@@ -83,7 +83,7 @@ module _ {gens words : List Word} {n : ℕ} {w : World} (query : Query gens word
 
   pub halving : (d : ℕ) → Halving gens words w.count p y (halves_in w p y d)
   halving d =
-      let (a, spelled, e) = letter-of query p some h in
+      let (a, spelled, e) = letter_of query p some h in
       elim (dec_lt d w.count) [
         | yes i ↦ rw (lt-ltb d w.count i, spelled) (passing a d e i)
         | no i ↦
@@ -103,21 +103,21 @@ module _ {gens words : List Word} {n : ℕ} {w : World} (query : Query gens word
 
   pub halving_way : {u q x s t o : Word} → Halves gens u q x s t o → word_at words p ≡ u → word_at words y ≡ q → HalvingWay words w p y x s t o
   halving_way (through {c} {x} {v} {q} st) e f =
-      let (a, spelled, e') = letter-of query p some h in
-      let (m, i, g) = node-of-state query v (state-tail gens st) in
+      let (a, spelled, e') = letter_of query p some h in
+      let (m, i, g) = node_of_state query v (state_tail gens st) in
       let alike : c ≡ a = cc in
       let there : State gens (a ∷ word_at words m) = rw (← alike, g) st in
-      way_at m p m m y h i i k (rw (lt-ltb m w.count i, spelled, ne_eqb (child_in w a m) 0 (state-child query a m i there))) e g g f
+      way_at m p m m y h i i k (rw (lt-ltb m w.count i, spelled, ne_eqb (child_in w a m) 0 (state_child query a m i there))) e g g f
   halving_way (across {x = x} {w = v} no_s st st') e f =
-      let (z, spelled, e') = begins-letter query.tree S p (node_inside query p h) x e in
-      let (m, i, g) = node-of-state query (S ∷ v) st in
-      let (z', _, g') = begins-letter query.tree S m (node_inside query m i) v g in
+      let (z, spelled, e') = begins_letter query.tree S p (node_inside query p h) x e in
+      let (m, i, g) = node_of_state query (S ∷ v) st in
+      let (z', _, g') = begins_letter query.tree S m (node_inside query m i) v g in
       let back : w.count + m - w.count ≡ m = omega arith in
       let there : State gens (S ∷ word_at words y) = rw f st' in
-      let child = state-child query S y k there in
+      let child = state_child query S y k there in
       let behind : at w.rests m < w.count = omega (arith, rest_earlier query m (λ e. omega arith) i) in
-      let single = begins-other query S rest rest_inside (λ l e''. not_s_other x l no_s (sym e' ∙ e'')) in
-      way_at (w.count + m) rest m (at w.rests m) (child_in w S y) rest_inside i behind (child-inside query S y k)
+      let single = begins_other query S rest rest_inside (λ l e''. not_s_other x l no_s (sym e' ∙ e'')) in
+      way_at (w.count + m) rest m (at w.rests m) (child_in w S y) rest_inside i behind (child_inside query S y k)
       (rw (le-ltb (w.count + m) w.count (omega arith), back, lt-ltb m w.count i, spelled)
-      (rw (single, begins-so query S m i g, ne_eqb (child_in w S y) 0 child)))
-      e' g g' (child-word query S y k child ∙ ap (λ (l : Word). S ∷ l) f)
+      (rw (single, begins_so query S m i g, ne_eqb (child_in w S y) 0 child)))
+      e' g g' (child_word query S y k child ∙ ap (λ (l : Word). S ∷ l) f)

@@ -24,12 +24,12 @@ use Rattle.products.specs.State.{State}
 use Rattle.products.proofs.States.{NotS}
 use Rattle.products.proofs.OneStep.{AllReduced}
 use Rattle.products.proofs.Firsts.{First}
-use Rattle.products.proofs.Exact.{Exact, all_reduced, measure_append, measure_factor, exact-positive}
+use Rattle.products.proofs.Exact.{Exact, all_reduced, measure_append, measure_factor, exact_positive}
 use Rattle.trees.specs.Tree.{at, word_at, most_of_entry, Child}
-use Rattle.trees.proofs.Nodes.{node-number-at, is-letter, byte_of, begins-letter}
-use Rattle.rows.proofs.WordRows.{table_at, table-exact}
+use Rattle.trees.proofs.Nodes.{node_number_at, is_letter, byte_of, begins_letter}
+use Rattle.rows.proofs.WordRows.{table_at, table_exact}
 use Rattle.tables.specs.Rules.{place}
-use Rattle.derivations.specs.Ways.{World, weight_in, childBy}
+use Rattle.derivations.specs.Ways.{World, weight_in, child_by}
 use Rattle.derivations.specs.Query.{Query}
 
 -- the table's entry from one word to another
@@ -38,7 +38,7 @@ entry_at words w u q = table_at words w.count w.counts u q
 
 -- the child by a letter
 abbrev pub child_in : World → Letter → ℕ → ℕ
-child_in w a v = childBy w.children_r w.children_s (byte a) v
+child_in w a v = child_by w.children_r w.children_s (byte a) v
 
 -- what the first series of an item is: of a factor that factor, and of a pair of nodes the first that leads from word to word
 abbrev pub PairSo : List Word → List Word → ℕ → World → ℕ → ℕ → List ℕ → Type 0
@@ -69,7 +69,7 @@ module _ {gens words : List Word} {n : ℕ} {w : World} (query : Query gens word
 
   pub entries_exact : Exact gens n (entry_at words w)
   entries_exact =
-      table-exact gens words w.count n w.letters w.rests w.children_r w.children_s w.wholes w.counts query.tree query.size measure
+      table_exact gens words w.count n w.letters w.rests w.children_r w.children_s w.wholes w.counts query.tree query.size measure
       query.exact
 
   -- ---- states and weights
@@ -87,7 +87,7 @@ module _ {gens words : List Word} {n : ℕ} {w : World} (query : Query gens word
   node_once p q h k e = query.tree.once p q (node_inside p h) (node_inside q k) e
 
   pub entry_some : (u q : Word) → State gens u → State gens q → 1 ≤ entry_at words w u q
-  entry_some u q s t = exact-positive gens measure measure_append n (entry_at words w) entries_exact (measure_factor gens) u q s t
+  entry_some u q s t = exact_positive gens measure measure_append n (entry_at words w) entries_exact (measure_factor gens) u q s t
 
   -- an item inside the table weighs its entry
   pub table_weight : (p q : ℕ) → p < w.count + length w.target → q < w.count → weight_in w (suc p) q ≡ at w.counts (place w.count p q)
@@ -99,7 +99,7 @@ module _ {gens words : List Word} {n : ℕ} {w : World} (query : Query gens word
 
   pub pair_weight : (p y : ℕ) → p < w.count → y < w.count → weight_in w (suc p) y ≡ entry_at words w (word_at words p) (word_at words y)
   pair_weight p y h k =
-      rw (node-number-at query.tree p (node_inside p h), node-number-at query.tree y (node_inside y k)) (table_weight p y (omega arith) k)
+      rw (node_number_at query.tree p (node_inside p h), node_number_at query.tree y (node_inside y k)) (table_weight p y (omega arith) k)
 
   pub pair_some : (p y : ℕ) → p < w.count → y < w.count → 1 ≤ weight_in w (suc p) y
   pair_some p y h k =
@@ -156,8 +156,8 @@ module _ {gens words : List Word} {n : ℕ} {w : World} (query : Query gens word
       by_letter : (p ≡ 0 → ⊥) → Begins words w a p (eqb (at w.letters p) (byte a))
       by_letter z =
           elim (ℕ_discrete (at w.letters p) (byte a)) [
-            | yes e ↦ rw (eq-eqb (at w.letters p) (byte a) e) (initial z (is-letter query.tree a p (omega arith) (node_inside p h) e))
-            | no d ↦ rw (ne_eqb (at w.letters p) (byte a) d) (differing (λ q e. d (begins-letter query.tree a p (node_inside p h) q e).1))
+            | yes e ↦ rw (eq-eqb (at w.letters p) (byte a) e) (initial z (is_letter query.tree a p (omega arith) (node_inside p h) e))
+            | no d ↦ rw (ne_eqb (at w.letters p) (byte a) d) (differing (λ q e. d (begins_letter query.tree a p (node_inside p h) q e).1))
           ]
 
   answer_so : {a : Letter} {p : ℕ} {t : Bool} {q : Word} → Begins words w a p t → word_at words p ≡ a ∷ q → t ≡ true

@@ -11,15 +11,15 @@ use borrow.Author.Tests.{lt-ltb}
 use Rattle.words.specs.Word.{Word}
 use Rattle.products.specs.Product.{measure}
 use Rattle.products.proofs.Exact.{measure_append, measure_factor}
-use Rattle.products.proofs.Firsts.{First, Fit, some_fit, first-whole, first_part}
+use Rattle.products.proofs.Firsts.{First, Fit, some_fit, first_whole, first_part}
 use Rattle.trees.specs.Tree.{at, word_at}
 use Rattle.derivations.specs.declared.Parts.{Parts}
 use Rattle.derivations.specs.declared.Parts.TheVariants.{One, Two}
 use Rattle.derivations.specs.Derivations.{Alone, Tight, Candidate}
 use Rattle.derivations.specs.Ways.{World, parts_in, weight_in}
 use Rattle.derivations.specs.Query.{Query}
-use Rattle.derivations.proofs.Nodes.{entry_at, PairSo, reduced, entries-exact, node-state}
-use Rattle.derivations.proofs.Factors.{by_factor_in, Fitting, alone, ahead, fitting, fit-tight, root-weight, parts-sum}
+use Rattle.derivations.proofs.Nodes.{entry_at, PairSo, reduced, entries_exact, node_state}
+use Rattle.derivations.proofs.Factors.{by_factor_in, Fitting, alone, ahead, fitting, fit_tight, root_weight, parts_sum}
 use Rattle.derivations.proofs.Induction.{PartsSo, Choice}
 
 module _ {gens words : List Word} {n : ℕ} {w : World} (query : Query gens words n w) where
@@ -31,14 +31,14 @@ module _ {gens words : List Word} {n : ℕ} {w : World} (query : Query gens word
     root_parts d = rw (lt-ltb 0 w.count (omega arith))
 
     root_low : T [] (word_at words y) ≤ n
-    root_low = omega (arith, root-weight query y k)
+    root_low = omega (arith, root_weight query y k)
 
     root_fit : (d : ℕ) × Fit gens measure T (word_at words y) d
     root_fit =
-        some_fit gens measure measure_append (measure_factor gens) n T (reduced query) (entries-exact query) (word_at words y) (node-state query y k) root_low
+        some_fit gens measure measure_append (measure_factor gens) n T (reduced query) (entries_exact query) (word_at words y) (node_state query y k) root_low
 
     pub root_attained : (d : ℕ) × Tight (weight_in w) 1 y (parts_in w 1 y d)
-    root_attained = let (d, fit) = root_fit in (d, rw (root_parts d) (fit-tight query y k d fit))
+    root_attained = let (d, fit) = root_fit in (d, rw (root_parts d) (fit_tight query y k d fit))
 
     -- every way with tight parts decides
     tight_alone : (ps : Parts) → Tight (weight_in w) 1 y ps → Alone 1 ps
@@ -50,7 +50,7 @@ module _ {gens words : List Word} {n : ℕ} {w : World} (query : Query gens word
     candidate_least d candidate i fit =
         elim (dec_lt i d) [
           | yes h ↦
-              let t : Tight (weight_in w) 1 y (parts_in w 1 y i) = rw (root_parts i) (fit-tight query y k i fit) in
+              let t : Tight (weight_in w) 1 y (parts_in w 1 y i) = rw (root_parts i) (fit_tight query y k i fit) in
               absurd (candidate.undecided i h t (tight_alone (parts_in w 1 y i) t))
           | no h ↦ omega arith
         ]
@@ -59,15 +59,15 @@ module _ {gens words : List Word} {n : ℕ} {w : World} (query : Query gens word
         → ((i : ℕ) → Fit gens measure T (word_at words y) i → d ≤ i) → First gens measure T [] (word_at words y) r
     first_by_factor {d} (alone f e one) t so least =
         rw so
-        (first-whole gens measure measure_append (measure_factor gens) n T (reduced query) (entries-exact query) (word_at words y) (node-state query y k) root_low
+        (first_whole gens measure measure_append (measure_factor gens) n T (reduced query) (entries_exact query) (word_at words y) (node_state query y k) root_low
         d least f e (sym one))
     first_by_factor {d} (ahead f i e) t so least =
         let (front, behind, split, itself, led) = so in
         let (_, some, sum) = t in
         let on = subst (λ (u : Word). First gens measure T u (word_at words y) behind) e (led i k (omega arith)) in
         rw (split, itself)
-        (first_part gens measure measure_append (measure_factor gens) n T (reduced query) (entries-exact query) (word_at words y) (node-state query y k) root_low
-        d least f (parts-sum query y k d f sum) behind on)
+        (first_part gens measure measure_append (measure_factor gens) n T (reduced query) (entries_exact query) (word_at words y) (node_state query y k) root_low
+        d least f (parts_sum query y k d f sum) behind on)
 
     pub root_first : {r : List ℕ} → Choice (parts_in w) (weight_in w) (PairSo gens words n w) 1 y r → First gens measure T (word_at words 0) (word_at words y) r
     root_first {r} choice =

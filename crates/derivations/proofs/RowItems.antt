@@ -12,21 +12,21 @@ use Rattle.words.specs.Word.{Word}
 use Rattle.words.specs.Bytes.{word}
 use Rattle.products.specs.Product.{measure}
 use Rattle.products.specs.State.{State}
-use Rattle.products.proofs.States.{state-tail}
+use Rattle.products.proofs.States.{state_tail}
 use Rattle.products.proofs.Exact.{measure_append}
 use Rattle.products.proofs.Order.{NoLater}
 use Rattle.products.proofs.Firsts.{First}
-use Rattle.products.proofs.RowFirsts.{RowTight, RowFirst, RowJoined, row-first-start, row-entry-read, row-first-read, some-row-tight, row-first-chain}
+use Rattle.products.proofs.RowFirsts.{RowTight, RowFirst, RowJoined, row_first_start, row_entry_read, row_first_read, some_row_tight, row_first_chain}
 use Rattle.trees.specs.Tree.{word_at}
 use Rattle.derivations.specs.declared.Parts.{Parts}
 use Rattle.derivations.specs.Derivations.{Alone, Tight, Candidate, Firsts, Joins, chosen, one, two}
 use Rattle.derivations.specs.Ways.{World, row_item, parts_in, weight_in}
 use Rattle.derivations.specs.Query.{Query}
-use Rattle.derivations.proofs.Nodes.{entry_at, entries-exact, node-state, node-of-state, pair-weight, pair-some}
+use Rattle.derivations.proofs.Nodes.{entry_at, entries_exact, node_state, node_of_state, pair_weight, pair_some}
 use Rattle.derivations.proofs.Pairs.{pairs_first}
-use Rattle.derivations.proofs.RowParts.{row_in, letter_in, read_in, RowWay, reading, chaining, root-inside, rows-closed, rows-reached, row-weight, row-some}
-use Rattle.derivations.proofs.RowParts.{letter-there, read-inside, read_word, read-weight, read-state, state-read}
-use Rattle.derivations.proofs.RowParts.{reading-parts, chaining-parts, row-way}
+use Rattle.derivations.proofs.RowParts.{row_in, letter_in, read_in, RowWay, reading, chaining, root_inside, rows_closed, rows_reached, row_weight, row_some}
+use Rattle.derivations.proofs.RowParts.{letter_there, read_inside, read_word_lem, read_weight, read_state, state_read}
+use Rattle.derivations.proofs.RowParts.{reading_parts, chaining_parts, row_way}
 
 module _ {gens words : List Word} {n : ℕ} {w : World} (query : Query gens words n w) where
   abbrev T : Word → Word → ℕ
@@ -43,13 +43,13 @@ module _ {gens words : List Word} {n : ℕ} {w : World} (query : Query gens word
   row i = row_item w.count i
 
   row_lower : (i : ℕ) → row i < row (suc i)
-  row_lower zero = omega (arith, root-inside query)
+  row_lower zero = omega (arith, root_inside query)
   row_lower (suc i) = omega arith
 
   module _ (i q : ℕ) (h : i < length w.target) (k : q < w.count) where
     -- the entry of row i + 1 at q's word
     next_weight : weight_in w (row (suc i)) q ≡ Row (suc i) (word_at words q)
-    next_weight = row-weight query (suc i) q h k
+    next_weight = row_weight query (suc i) q h k
 
     -- ---- where the letter cannot stand before q's word
 
@@ -59,19 +59,19 @@ module _ {gens words : List Word} {n : ℕ} {w : World} (query : Query gens word
     tight_row v (reading some) z t = absurd (some z)
     tight_row v (chaining _ inside some) z (_, _, sum) =
         record {
-          state = read-state query i v inside some;
-          sum = omega (arith, read-weight query i v (omega arith) inside some, pair-weight query v q inside k, next_weight);
+          state = read_state query i v inside some;
+          sum = omega (arith, read_weight query i v (omega arith) inside some, pair_weight query v q inside k, next_weight);
         }
 
     row_tight : (v : ℕ) → v < w.count → read_in w i q ≡ 0 → RowTight gens T Row i (letter_in w i) (word_at words q) (word_at words v)
         → Tight (weight_in w) (row (suc i)) q (parts_in w (row (suc i)) q v)
     row_tight v inside z tight =
-        let some = state-read query i v inside tight.state in
+        let some = state_read query i v inside tight.state in
         let sum = tight.sum in
-        rw (chaining-parts query i q v z inside some) (
-          row-some query i (read_in w i v) (omega arith) (read-inside query i v inside),
-          pair-some query v q inside k,
-          omega (arith, read-weight query i v (omega arith) inside some, pair-weight query v q inside k, next_weight),
+        rw (chaining_parts query i q v z inside some) (
+          row_some query i (read_in w i v) (omega arith) (read_inside query i v inside),
+          pair_some query v q inside k,
+          omega (arith, read_weight query i v (omega arith) inside some, pair_weight query v q inside k, next_weight),
         )
 
     -- no way decides: none has one part, and the row's number is not 1
@@ -80,7 +80,7 @@ module _ {gens words : List Word} {n : ℕ} {w : World} (query : Query gens word
     not_alone v (chaining _ inside some) z a = omega arith
 
     unread : read_in w i q ≡ 0 → State gens (letter_in w i ∷ word_at words q) → ⊥
-    unread z s = state-read query i q k s z
+    unread z s = state_read query i q k s z
 
     module _ (within : weight_in w (row (suc i)) q ≤ n) where
       low : Row (suc i) (word_at words q) ≤ n
@@ -88,24 +88,24 @@ module _ {gens words : List Word} {n : ℕ} {w : World} (query : Query gens word
 
       some_tight : read_in w i q ≡ 0 → (v : Word) × RowTight gens T Row i (letter_in w i) (word_at words q) v
       some_tight z =
-          some-row-tight gens measure measure_append n T x Row (entries-exact query) (rows-closed query) (rows-reached query) i (letter_in w i) (word_at words q)
-          (letter-there query i h) (node-state query q k) low (unread z)
+          some_row_tight gens measure measure_append n T x Row (entries_exact query) (rows_closed query) (rows_reached query) i (letter_in w i) (word_at words q)
+          (letter_there query i h) (node_state query q k) low (unread z)
 
       next_attained : (d : ℕ) × Tight (weight_in w) (row (suc i)) q (parts_in w (row (suc i)) q d)
       next_attained =
           elim (ℕ_discrete (read_in w i q) 0) [
             | yes z ↦
                 let (v, tight) = some_tight z in
-                let (d, inside, same) = node-of-state query v (state-tail gens tight.state) in
+                let (d, inside, same) = node_of_state query v (state_tail gens tight.state) in
                 (d, row_tight d inside z (subst (RowTight gens T Row i (letter_in w i) (word_at words q)) (sym same) tight))
-            | no some ↦ (0, rw (reading-parts query i q some) (row_lower i, row-some query i (read_in w i q) (omega arith) (read-inside query i q k), same some))
+            | no some ↦ (0, rw (reading_parts query i q some) (row_lower i, row_some query i (read_in w i q) (omega arith) (read_inside query i q k), same some))
           ]
         where
           same : (read_in w i q ≡ 0 → ⊥) → weight_in w (row i) (read_in w i q) ≡ weight_in w (row (suc i)) q
           same some =
-              read-weight query i q (omega arith) k some
-              ∙ sym (row-entry-read gens measure measure_append n T x Row (entries-exact query) (rows-closed query) (rows-reached query) i (letter_in w i)
-              (word_at words q) (letter-there query i h) (node-state query q k) low (read-state query i q k some))
+              read_weight query i q (omega arith) k some
+              ∙ sym (row_entry_read gens measure measure_append n T x Row (entries_exact query) (rows_closed query) (rows_reached query) i (letter_in w i)
+              (word_at words q) (letter_there query i h) (node_state query q k) low (read_state query i q k some))
               ∙ sym next_weight
 
   pub rows_attained : (i q : ℕ) → i < length w.target → q < w.count → weight_in w (suc (w.count + i)) q ≤ n
@@ -122,10 +122,10 @@ module _ {gens words : List Word} {n : ℕ} {w : World} (query : Query gens word
 
   start_first : RowSo 0
   start_first q k r f within =
-      row-first-start gens measure measure_append n T x Row (entries-exact query) (rows-closed query) (rows-reached query) (word_at words q) r
-      (node-state query q k)
+      row_first_start gens measure measure_append n T x Row (entries_exact query) (rows_closed query) (rows_reached query) (word_at words q) r
+      (node_state query q k)
       (subst (λ (u : Word). First gens measure T u (word_at words q) r) query.tree.root
-      (pairs_first query 0 q (root-inside query) k f within))
+      (pairs_first query 0 q (root_inside query) k f within))
 
   module _ (i : ℕ) (h : i < length w.target) (before : RowSo i) where
     joined_row : (q v : ℕ) {ps : Parts} {r : List ℕ} → q < w.count → weight_in w (row (suc i)) q ≤ n → RowWay w i q v ps → read_in w i q ≡ 0
@@ -138,35 +138,35 @@ module _ {gens words : List Word} {n : ℕ} {w : World} (query : Query gens word
           behind = s;
           split = refl;
           first =
-              subst (λ (u : Word). RowFirst gens measure T x Row i u r) (read_word query i v inside some)
-              (before (read_in w i v) (read-inside query i v inside) r f (omega arith));
+              subst (λ (u : Word). RowFirst gens measure T x Row i u r) (read_word_lem query i v inside some)
+              (before (read_in w i v) (read_inside query i v inside) r f (omega arith));
           second = pairs_first query v q inside k g (omega arith);
         }
 
     next_first : RowSo (suc i)
-    next_first q k r (chosen d _ c j others joined no_later) within = by_way (row-way query i q d) j c.tight
+    next_first q k r (chosen d _ c j others joined no_later) within = by_way (row_way query i q d) j c.tight
       where
         over : read_in w i q ≡ 0 → (v : ℕ) → v < w.count → RowTight gens T Row i (letter_in w i) (word_at words q) (word_at words v)
             → (s : List ℕ) × RowJoined gens measure T x Row i (letter_in w i) (word_at words q) (word_at words v) s × NoLater r s
         over z v inside tight =
             let t = row_tight i q h k v inside z tight in
             let c' : Candidate (parts_in w) (weight_in w) (row (suc i)) q v =
-            record { tight = t; undecided = λ e _ _ a. not_alone i q h k e (row-way query i q e) z a } in
-            (others v c', joined_row q v k within (row-way query i q v) z t (joined v c'), no_later v c')
+            record { tight = t; undecided = λ e _ _ a. not_alone i q h k e (row_way query i q e) z a } in
+            (others v c', joined_row q v k within (row_way query i q v) z t (joined v c'), no_later v c')
 
         by_way : {ps : Parts} → RowWay w i q d ps → Joins (parts_in w) (weight_in w) ps r → Tight (weight_in w) (row (suc i)) q ps
             → RowFirst gens measure T x Row (suc i) (word_at words q) r
         by_way (reading some) (one f) (_, _, same) =
-            row-first-read gens measure measure_append n T x Row (entries-exact query) (rows-closed query) (rows-reached query) i (letter_in w i)
-            (word_at words q) (letter-there query i h) (node-state query q k) (low i q h k within) (read-state query i q k some) r
-            (subst (λ (u : Word). RowFirst gens measure T x Row i u r) (read_word query i q k some)
-            (before (read_in w i q) (read-inside query i q k) r f (omega arith)))
+            row_first_read gens measure measure_append n T x Row (entries_exact query) (rows_closed query) (rows_reached query) i (letter_in w i)
+            (word_at words q) (letter_there query i h) (node_state query q k) (low i q h k within) (read_state query i q k some) r
+            (subst (λ (u : Word). RowFirst gens measure T x Row i u r) (read_word_lem query i q k some)
+            (before (read_in w i q) (read_inside query i q k) r f (omega arith)))
         by_way (chaining z inside some) j t =
-            row-first-chain gens measure measure_append n T x Row (entries-exact query) (rows-closed query) (rows-reached query) i (letter_in w i)
-            (word_at words q) (letter-there query i h) (node-state query q k) (low i q h k within) (unread i q h k z)
+            row_first_chain gens measure measure_append n T x Row (entries_exact query) (rows_closed query) (rows_reached query) i (letter_in w i)
+            (word_at words q) (letter_there query i h) (node_state query q k) (low i q h k within) (unread i q h k z)
             (word_at words d) r (tight_row i q h k d (chaining z inside some) z t) (joined_row q d k within (chaining z inside some) z t j)
             (λ u tight.
-            let (v, inside', same) = node-of-state query u (state-tail gens tight.state) in
+            let (v, inside', same) = node_of_state query u (state_tail gens tight.state) in
             subst (λ (u : Word). (s : List ℕ) × RowJoined gens measure T x Row i (letter_in w i) (word_at words q) u s × NoLater r s) same
             (over z v inside' (subst (RowTight gens T Row i (letter_in w i) (word_at words q)) (sym same) tight)))
 

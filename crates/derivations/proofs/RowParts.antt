@@ -18,21 +18,21 @@ use Rattle.words.specs.Bytes.{letter, word}
 use Rattle.refusals.specs.Telling.{pick}
 use Rattle.products.specs.Product.{measure}
 use Rattle.products.specs.State.{State}
-use Rattle.products.proofs.Exact.{measure_append, measure_factor, exact-closed}
-use Rattle.products.proofs.Tables.{weight-positive}
+use Rattle.products.proofs.Exact.{measure_append, measure_factor, exact_closed}
+use Rattle.products.proofs.Tables.{weight_positive}
 use Rattle.products.proofs.Rows.{RowsClosed, RowsAttained}
-use Rattle.products.proofs.RowClasses.{LetterAt, reads_some, reads_series, row-reached}
+use Rattle.products.proofs.RowClasses.{LetterAt, reads_some, reads_series, row_reached}
 use Rattle.products.proofs.Verdict.{Rounds, rows_closed_of, rows_attained_of}
 use Rattle.trees.specs.Tree.{at, word_at, most_of_entry}
-use Rattle.trees.proofs.Nodes.{node-number-at}
+use Rattle.trees.proofs.Nodes.{node_number_at}
 use Rattle.tables.specs.Rules.{place}
-use Rattle.rows.proofs.WordRows.{row_at, readWord, letter_at, rows-rounds}
+use Rattle.rows.proofs.WordRows.{row_at, read_word, letter_at, rows_rounds}
 use Rattle.derivations.specs.declared.Parts.{Parts}
 use Rattle.derivations.specs.declared.Parts.TheVariants.{One, Two, Nothing}
-use Rattle.derivations.specs.Ways.{World, row_item, read_at, nextRow, parts_in, weight_in}
+use Rattle.derivations.specs.Ways.{World, row_item, read_at, next_row, parts_in, weight_in}
 use Rattle.derivations.specs.Query.{Query}
-use Rattle.derivations.proofs.Nodes.{entry_at, child_in, entries-exact, node_inside, node-state, table-weight}
-use Rattle.derivations.proofs.Nodes.{child-inside, child-word, state-child, child-state}
+use Rattle.derivations.proofs.Nodes.{entry_at, child_in, entries_exact, node_inside, node_state, table_weight}
+use Rattle.derivations.proofs.Nodes.{child_inside, child_word, state_child, child_state}
 
 -- the entry of row i at a word
 abbrev pub row_in : {gens words : List Word} {n : ℕ} {w : World} → Query gens words n w → ℕ → Word → ℕ
@@ -56,14 +56,14 @@ module _ {gens words : List Word} {n : ℕ} {w : World} (query : Query gens word
   root_inside = omega (arith, query.tree.shape.some, query.size)
 
   rounds : Rounds gens n (entry_at words w) (word w.target) (row_in query)
-      (readWord words w.count n w.children_r w.children_s w.target w.counts query.rows)
+      (read_word words w.count n w.children_r w.children_s w.target w.counts query.rows)
   rounds =
-      rows-rounds gens words w.count n w.letters w.rests w.children_r w.children_s w.wholes w.counts query.tree query.size
+      rows_rounds gens words w.count n w.letters w.rests w.children_r w.children_s w.wholes w.counts query.tree query.size
       w.target query.rows query.path
 
   pub rows_closed : RowsClosed gens n (entry_at words w) (word w.target) (row_in query)
   rows_closed = rows_closed_of gens n (entry_at words w) (word w.target) (row_in query)
-      (exact-closed gens measure measure_append n (entry_at words w) (entries-exact query)) _ rounds
+      (exact_closed gens measure measure_append n (entry_at words w) (entries_exact query)) _ rounds
 
   pub rows_reached : RowsAttained gens n (entry_at words w) (word w.target) (row_in query)
   rows_reached = rows_attained_of gens n (entry_at words w) (word w.target) (row_in query) _ rounds
@@ -75,9 +75,9 @@ module _ {gens words : List Word} {n : ℕ} {w : World} (query : Query gens word
 
   pub row_weight : (i q : ℕ) → i ≤ length w.target → q < w.count → weight_in w (row_item w.count i) q ≡ row_in query i (word_at words q)
   row_weight zero q h k =
-      rw (node-number-at query.tree q (node_inside query q k)) (table-weight query 0 q (omega arith) k ∙ sym (query.path.start q k))
+      rw (node_number_at query.tree q (node_inside query q k)) (table_weight query 0 q (omega arith) k ∙ sym (query.path.start q k))
   row_weight (suc i) q h k =
-      rw (node-number-at query.tree q (node_inside query q k)) (table-weight query (w.count + i) q (omega arith) k ∙ query.behind i q h k)
+      rw (node_number_at query.tree q (node_inside query q k)) (table_weight query (w.count + i) q (omega arith) k ∙ query.behind i q h k)
 
   -- where the entry is up to n a series of its class has as many factors, and none of them is empty
   pub row_some : (i q : ℕ) → i ≤ length w.target → q < w.count → 1 ≤ weight_in w (row_item w.count i) q
@@ -86,10 +86,10 @@ module _ {gens words : List Word} {n : ℕ} {w : World} (query : Query gens word
       (elim (dec_le (row_in query i (word_at words q)) n) [
         | yes l ↦
             let (r, d, e) =
-            row-reached gens measure measure_append n (entry_at words w) (word w.target) (row_in query) (entries-exact query) rows_reached
-            i (omega (arith, same_length)) (word_at words q) (node-state query q k) l in
+            row_reached gens measure measure_append n (entry_at words w) (word w.target) (row_in query) (entries_exact query) rows_reached
+            i (omega (arith, same_length)) (word_at words q) (node_state query q k) l in
             rw e at
-            (weight-positive gens measure measure_append (measure_factor gens) r (reads_series gens (word w.target) d)
+            (weight_positive gens measure measure_append (measure_factor gens) r (reads_series gens (word w.target) d)
             (reads_some gens (word w.target) d))
         | no l ↦ omega arith
       ])
@@ -107,24 +107,24 @@ module _ {gens words : List Word} {n : ℕ} {w : World} (query : Query gens word
       by false = refl
 
   pub read_inside : (i v : ℕ) → v < w.count → read_in w i v < w.count
-  read_inside i v h = rw (read_child i v) (child-inside query (letter_in w i) v h)
+  read_inside i v h = rw (read_child i v) (child_inside query (letter_in w i) v h)
 
-  pub read_word : (i v : ℕ) → v < w.count → (read_in w i v ≡ 0 → ⊥) → word_at words (read_in w i v) ≡ letter_in w i ∷ word_at words v
-  read_word i v h some = rw (read_child i v) (child-word query (letter_in w i) v h (λ e. some (read_child i v ∙ e)))
+  pub read_word_lem : (i v : ℕ) → v < w.count → (read_in w i v ≡ 0 → ⊥) → word_at words (read_in w i v) ≡ letter_in w i ∷ word_at words v
+  read_word_lem i v h some = rw (read_child i v) (child_word query (letter_in w i) v h (λ e. some (read_child i v ∙ e)))
 
   pub read_weight : (i v : ℕ) → i ≤ length w.target → v < w.count → (read_in w i v ≡ 0 → ⊥)
       → weight_in w (row_item w.count i) (read_in w i v) ≡ row_in query i (letter_in w i ∷ word_at words v)
-  read_weight i v h k some = row_weight i (read_in w i v) h (read_inside i v k) ∙ ap (row_in query i) (read_word i v k some)
+  read_weight i v h k some = row_weight i (read_in w i v) h (read_inside i v k) ∙ ap (row_in query i) (read_word_lem i v k some)
 
   pub read_state : (i v : ℕ) → v < w.count → (read_in w i v ≡ 0 → ⊥) → State gens (letter_in w i ∷ word_at words v)
-  read_state i v h some = child-state query (letter_in w i) v h (λ e. some (read_child i v ∙ e))
+  read_state i v h some = child_state query (letter_in w i) v h (λ e. some (read_child i v ∙ e))
 
   pub state_read : (i v : ℕ) → v < w.count → State gens (letter_in w i ∷ word_at words v) → read_in w i v ≡ 0 → ⊥
-  state_read i v h s e = state-child query (letter_in w i) v h s (sym (read_child i v) ∙ e)
+  state_read i v h s e = state_child query (letter_in w i) v h s (sym (read_child i v) ∙ e)
 
   -- ---- parts
 
-  row_parts : (i q d : ℕ) → parts_in w (suc (w.count + i)) q d ≡ nextRow w.count w.children_r w.children_s w.target i q d
+  row_parts : (i q d : ℕ) → parts_in w (suc (w.count + i)) q d ≡ next_row w.count w.children_r w.children_s w.target i q d
   row_parts i q d =
       let back : w.count + i - w.count ≡ i = omega arith in
       rw (le-ltb (w.count + i) w.count (omega arith), back)

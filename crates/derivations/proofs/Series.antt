@@ -10,7 +10,7 @@ use Prim.Native.Nat.{ℕ, ◌+◌, ◌≤◌}
 use native.Mathlib.Omega.{arith}
 use lib.ListN.{length, length-append}
 use Rattle.products.specs.Product.{Each, Before}
-use Rattle.products.proofs.Order.{NoLater, no_later_antisym, series-compare}
+use Rattle.products.proofs.Order.{NoLater, no_later_antisym, series_compare}
 use Rattle.derivations.specs.declared.Parts.{Parts}
 use Rattle.derivations.specs.declared.Parts.TheVariants.{One, Two}
 use Rattle.derivations.specs.Derivations.{Tight, Firsts, Joins, factor, chosen, one, two}
@@ -65,4 +65,4 @@ each_unit [] = tt
 each_unit (i ∷ r) = (tt, each_unit r)
 
 pub same_length_compare : (r s : List ℕ) → length r ≡ length s → NoLater r s ⊎ Before s r
-same_length_compare r s e = series-compare (λ _. Unit {0}) length length-append (λ j u. omega arith) r s (each_unit r) (each_unit s) e
+same_length_compare r s e = series_compare (λ _. Unit {0}) length length-append (λ j u. omega arith) r s (each_unit r) (each_unit s) e

@@ -13,15 +13,15 @@ use Rattle.words.specs.Word.{Letter, R, S, Word}
 use Rattle.words.specs.Bytes.{byte}
 use Rattle.refusals.specs.Telling.{pick}
 use Rattle.products.specs.State.{State}
-use Rattle.products.proofs.States.{state-tail}
+use Rattle.products.proofs.States.{state_tail}
 use Rattle.products.proofs.Halves.{Shift, same, over_r, over_ss_lem, over_s, Unshifted, unshifted_r, unshifted_s}
 use Rattle.trees.specs.Tree.{at, word_at}
 use Rattle.derivations.specs.declared.Parts.{Parts}
 use Rattle.derivations.specs.declared.Parts.TheVariants.{One, Nothing}
 use Rattle.derivations.specs.Ways.{World, shift, over, over_ss}
 use Rattle.derivations.specs.Query.{Query}
-use Rattle.derivations.proofs.Nodes.{child_in, Begins, initial, differing, not_s, begins, letter-of, rest_earlier}
-use Rattle.derivations.proofs.Nodes.{child-inside, child-word, child-state, state-child}
+use Rattle.derivations.proofs.Nodes.{child_in, Begins, initial, differing, not_s, begins, letter_of, rest_earlier}
+use Rattle.derivations.proofs.Nodes.{child_inside, child_word, child_state, state_child}
 
 abbrev pub shift_in : World → ℕ → ℕ → Parts
 shift_in w p y = shift w.letters w.rests w.children_r w.children_s p y
@@ -36,7 +36,7 @@ pub data Shifted (gens words : List Word) (count p y : ℕ) : Parts → Type 0 w
 unshifted_no_s : (gens : List Word) {x q : Word} → ((y : Word) → q ≢ S ∷ y) → (State gens (S ∷ q) → ⊥) → Unshifted gens (S ∷ x) q
 unshifted_no_s gens other none _ _ (same _ {y = y}) = other y refl
 unshifted_no_s gens other none _ _ (over_ss_lem s) = none s
-unshifted_no_s gens other none _ _ (over_s s) = none (state-tail gens s)
+unshifted_no_s gens other none _ _ (over_s s) = none (state_tail gens s)
 
 module _ {gens words : List Word} {n : ℕ} {w : World} (query : Query gens words n w)
     (p y : ℕ) (some : p ≡ 0 → ⊥) (h : p < w.count) (k : y < w.count) where
@@ -50,17 +50,17 @@ module _ {gens words : List Word} {n : ℕ} {w : World} (query : Query gens word
   over_two : word_at words p ≡ S ∷ word_at words rest → ((q : Word) → word_at words y ≢ S ∷ q) → (child_in w S y ≡ 0 → ⊥) → ((q : Word) → word_at words rest ≢ S ∷ q)
       → Shifted gens words w.count p y (over_ss rest (child_in w S (child_in w S y)))
   over_two e differs there single =
-      let one = child-word query S y k there in
-      let inside = child-inside query S y k in
+      let one = child_word query S y k there in
+      let inside = child_inside query S y k in
       let c = child_in w S y in
       elim (ℕ_discrete (child_in w S c) 0) [
         | yes z ↦
             rw (eq-eqb (child_in w S c) 0 z)
-            (kept (rw e (unshifted_s gens (not_s (word_at words rest) single) differs (λ s. state-child query S c inside (rw one s) z))))
+            (kept (rw e (unshifted_s gens (not_s (word_at words rest) single) differs (λ s. state_child query S c inside (rw one s) z))))
         | no z ↦
             rw (ne_eqb (child_in w S c) 0 z)
-            (carried rest (child_in w S c) earlier (child-inside query S c inside)
-            (rw (e, child-word query S c inside z, one) (over_s (rw one at (child-state query S c inside z)))))
+            (carried rest (child_in w S c) earlier (child_inside query S c inside)
+            (rw (e, child_word query S c inside z, one) (over_s (rw one at (child_state query S c inside z)))))
       ]
 
   -- one S in front of y
@@ -70,23 +70,23 @@ module _ {gens words : List Word} {n : ℕ} {w : World} (query : Query gens word
       (pick t (One (suc (at w.rests rest)) (child_in w S y))
       (over_ss rest (child_in w S (child_in w S y))))
   over_one e differs there (initial some' e') =
-      carried (at w.rests rest) (child_in w S y) (omega (arith, earlier, rest_earlier query rest some' (omega (arith, earlier)))) (child-inside query S y k)
-      (rw (e, e', child-word query S y k there) (over_ss_lem (child-state query S y k there)))
+      carried (at w.rests rest) (child_in w S y) (omega (arith, earlier, rest_earlier query rest some' (omega (arith, earlier)))) (child_inside query S y k)
+      (rw (e, e', child_word query S y k there) (over_ss_lem (child_state query S y k there)))
   over_one e differs there (differing single) = over_two e differs there single
 
   carried_over : (a : Letter) → word_at words p ≡ a ∷ word_at words rest → ((q : Word) → word_at words y ≢ a ∷ q)
       → Shifted gens words w.count p y (over w.letters w.rests w.children_s (byte a) rest (child_in w a y))
   carried_over R e differs =
       elim (ℕ_discrete (child_in w R y) 0) [
-        | yes z ↦ rw (eq-eqb (child_in w R y) 0 z) (kept (rw e (unshifted_r gens differs (λ s. state-child query R y k s z))))
+        | yes z ↦ rw (eq-eqb (child_in w R y) 0 z) (kept (rw e (unshifted_r gens differs (λ s. state_child query R y k s z))))
         | no z ↦
             rw (ne_eqb (child_in w R y) 0 z)
-            (carried rest (child_in w R y) earlier (child-inside query R y k)
-            (rw (e, child-word query R y k z) (over_r (child-state query R y k z))))
+            (carried rest (child_in w R y) earlier (child_inside query R y k)
+            (rw (e, child_word query R y k z) (over_r (child_state query R y k z))))
       ]
   carried_over S e differs =
       elim (ℕ_discrete (child_in w S y) 0) [
-        | yes z ↦ rw (eq-eqb (child_in w S y) 0 z) (kept (rw e (unshifted_no_s gens differs (λ s. state-child query S y k s z))))
+        | yes z ↦ rw (eq-eqb (child_in w S y) 0 z) (kept (rw e (unshifted_no_s gens differs (λ s. state_child query S y k s z))))
         | no z ↦ rw (ne_eqb (child_in w S y) 0 z) (over_one e differs z (begins query S rest (omega (arith, earlier))))
       ]
 
@@ -99,4 +99,4 @@ module _ {gens words : List Word} {n : ℕ} {w : World} (query : Query gens word
   shifted_by a e (differing differs) = carried_over a e differs
 
   pub shifted : Shifted gens words w.count p y (shift_in w p y)
-  shifted = let (a, spelled, e) = letter-of query p some h in rw spelled (shifted_by a e (begins query a y k))
+  shifted = let (a, spelled, e) = letter_of query p some h in rw spelled (shifted_by a e (begins query a y k))

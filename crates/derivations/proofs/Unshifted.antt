@@ -11,15 +11,15 @@ use Rattle.products.specs.Product.{measure}
 use Rattle.products.proofs.Exact.{measure_append, measure_factor}
 use Rattle.products.proofs.Order.{NoLater}
 use Rattle.products.proofs.Halves.{Unshifted}
-use Rattle.products.proofs.Firsts.{Tight as TightWords, First, Joined, some-tight, first-halved}
+use Rattle.products.proofs.Firsts.{Tight as TightWords, First, Joined, some_tight, first_halved}
 use Rattle.trees.specs.Tree.{word_at}
 use Rattle.derivations.specs.declared.Parts.{Parts}
 use Rattle.derivations.specs.declared.Parts.TheVariants.{Two}
 use Rattle.derivations.specs.Derivations.{Alone, Tight, Candidate}
 use Rattle.derivations.specs.Ways.{World, parts_in, weight_in}
 use Rattle.derivations.specs.Query.{Query}
-use Rattle.derivations.proofs.Nodes.{entry_at, PairSo, reduced, entries-exact, node-state, node-some, pair-weight, pair-some}
-use Rattle.derivations.proofs.Halved.{halves_in, Halving, both, HalvingWay, way, halving, halving-way}
+use Rattle.derivations.proofs.Nodes.{entry_at, PairSo, reduced, entries_exact, node_state, node_some, pair_weight, pair_some}
+use Rattle.derivations.proofs.Halved.{halves_in, Halving, both, HalvingWay, way, halving, halving_way}
 use Rattle.derivations.proofs.Induction.{PartsSo, Choice}
 
 module _ {gens words : List Word} {n : ℕ} {w : World} (query : Query gens words n w) where
@@ -28,22 +28,22 @@ module _ {gens words : List Word} {n : ℕ} {w : World} (query : Query gens word
 
   module _ (p y : ℕ) (some : p ≡ 0 → ⊥) (h : p < w.count) (k : y < w.count) (low : weight_in w (suc p) y ≤ n) where
     pair_low : T (word_at words p) (word_at words y) ≤ n
-    pair_low = omega (arith, pair-weight query p y h k)
+    pair_low = omega (arith, pair_weight query p y h k)
 
     -- halves of nodes are tight exactly where those of their words are
     tight_sum : (a b c e : ℕ) → a < w.count → b < w.count → c < w.count → e < w.count
         → T (word_at words a) (word_at words b) + T (word_at words c) (word_at words e) ≡ T (word_at words p) (word_at words y)
         → Tight (weight_in w) (suc p) y (Two (suc a) b (suc c) e)
     tight_sum a b c e ia ib ic ie sum = (
-      pair-some query a b ia ib,
-      pair-some query c e ic ie,
-      omega (arith, pair-weight query a b ia ib, pair-weight query c e ic ie, pair-weight query p y h k),
+      pair_some query a b ia ib,
+      pair_some query c e ic ie,
+      omega (arith, pair_weight query a b ia ib, pair_weight query c e ic ie, pair_weight query p y h k),
     )
 
     sum_tight : (a b c e : ℕ) → a < w.count → b < w.count → c < w.count → e < w.count → Tight (weight_in w) (suc p) y (Two (suc a) b (suc c) e)
         → T (word_at words a) (word_at words b) + T (word_at words c) (word_at words e) ≡ T (word_at words p) (word_at words y)
     sum_tight a b c e ia ib ic ie t =
-        omega (arith, t.2, pair-weight query a b ia ib, pair-weight query c e ic ie, pair-weight query p y h k)
+        omega (arith, t.2, pair_weight query a b ia ib, pair_weight query c e ic ie, pair_weight query p y h k)
 
     tight_way : {x s t o : Word} → HalvingWay words w p y x s t o → T x s + T t o ≡ T (word_at words p) (word_at words y)
         → (d : ℕ) × Tight (weight_in w) (suc p) y (halves_in w p y d)
@@ -52,13 +52,13 @@ module _ {gens words : List Word} {n : ℕ} {w : World} (query : Query gens word
     tight_some : Unshifted gens (word_at words p) (word_at words y)
         → (x : Word) × (s : Word) × (t : Word) × (o : Word) × TightWords gens T (word_at words p) (word_at words y) x s t o
     tight_some un =
-        some-tight gens measure measure_append (measure_factor gens) n T (reduced query) (entries-exact query) (word_at words p) (word_at words y)
-        (node-state query p h) (node-state query y k) pair_low (node-some query p some h) un
+        some_tight gens measure measure_append (measure_factor gens) n T (reduced query) (entries_exact query) (word_at words p) (word_at words y)
+        (node_state query p h) (node_state query y k) pair_low (node_some query p some h) un
 
     pub unshifted_attained : Unshifted gens (word_at words p) (word_at words y) → (d : ℕ) × Tight (weight_in w) (suc p) y (halves_in w p y d)
     unshifted_attained un =
         let (x, s, t, o, tight) = tight_some un in
-        tight_way (halving-way query p y some h k tight.halves refl refl) tight.sum
+        tight_way (halving_way query p y some h k tight.halves refl refl) tight.sum
 
     -- no way of halves decides
     halves_undecided : {ps : Parts} → Halving gens words w.count p y ps → Alone (suc p) ps → ⊥
@@ -100,12 +100,12 @@ module _ {gens words : List Word} {n : ℕ} {w : World} (query : Query gens word
         first_by_halves : {ps : Parts} → Halving gens words w.count p y ps → Tight (weight_in w) (suc p) y ps → PartsSo (PairSo gens words n w) ps r
             → First gens measure T (word_at words p) (word_at words y) r
         first_by_halves (both a b c e ia ib ic ie halves) t so =
-            first-halved gens measure measure_append (measure_factor gens) n T (reduced query) (entries-exact query) (word_at words p) (word_at words y)
-            (node-state query p h) (node-state query y k) pair_low (node-some query p some h) un
+            first_halved gens measure measure_append (measure_factor gens) n T (reduced query) (entries_exact query) (word_at words p) (word_at words y)
+            (node_state query p h) (node_state query y k) pair_low (node_some query p some h) un
             (word_at words a) (word_at words b) (word_at words c) (word_at words e) r
             (record { halves = halves; sum = sum_tight a b c e ia ib ic ie t })
             (joined a b c e r ia ib ic ie t so)
-            (λ x s t' o tight. other_joined (halving-way query p y some h k tight.halves refl refl) tight.sum)
+            (λ x s t' o tight. other_joined (halving_way query p y some h k tight.halves refl refl) tight.sum)
 
         pub unshifted_first : First gens measure T (word_at words p) (word_at words y) r
         unshifted_first =

@@ -19,7 +19,7 @@ use Rattle.tables.specs.Rules.{place}
 use Rattle.derivations.specs.declared.Parts.{Parts}
 use Rattle.derivations.specs.declared.Parts.TheVariants.{One, Two, Nothing}
 use Rattle.derivations.specs.Derivations.{Tight}
-use Rattle.derivations.specs.Ways.{World, row_item, unless, shift, read_at, nextRow, ways, parts_in, weight_in}
+use Rattle.derivations.specs.Ways.{World, row_item, unless, shift, read_at, next_row, ways, parts_in, weight_in}
 
 pub row_behind_pairs : (count i : ℕ) → (i ≡ 0 → ⊥) → count + i ≡ row_item count i
 row_behind_pairs count zero some = absurd (some refl)
@@ -66,7 +66,7 @@ module _ (w : World) where
   unless_behind (Two a b c e) p y d some h = simp (le-ltb d w.count (omega arith), le-ltb (d - w.count) w.count (omega arith))
   unless_behind Nothing p y d some h = simp (le-ltb d w.count (omega arith), le-ltb (d - w.count) w.count (omega arith))
 
-  row_behind : (i q d : ℕ) → 1 ≤ w.count → w.count ≤ d → nextRow w.count w.children_r w.children_s w.target i q d ≡ Nothing
+  row_behind : (i q d : ℕ) → 1 ≤ w.count → w.count ≤ d → next_row w.count w.children_r w.children_s w.target i q d ≡ Nothing
   row_behind i q d some h =
       rw (le-ltb d w.count h, ne_eqb d 0 (λ e. omega arith))
       (pick_both (eqb (read_at w.count w.children_r w.children_s w.target i q) 0))

@@ -11,7 +11,7 @@ use Rattle.refusals.specs.declared.Asked.{Asked}
 use Rattle.refusals.specs.declared.Asked.TheVariants.{Passed, Refused}
 use Rattle.refusals.proofs.Asking.{first_no_passed, first_no_refused, first_no_one}
 use Rattle.products.specs.Product.{generators, plain}
-use Rattle.products.proofs.Reducing.{none-reduced, member-reduced}
+use Rattle.products.proofs.Reducing.{none_reduced, member_reduced}
 use Rattle.lists.specs.Questions.{of_list, question11}
 use Rattle.lists.specs.NormalList.{total}
 use Rattle.sizes.specs.Questions.{side, of_sizes}
@@ -22,13 +22,13 @@ use Rattle.engine.specs.Calls.{Lent, VerdictRight, Judged, Judges}
 use Rattle.engine.specs.Judging.{JudgesForm}
 use Rattle.engine.specs.declared.Verdict.{Verdict}
 use Rattle.engine.specs.declared.Verdict.TheVariants.{Member, None, Refused as Verdict-as-Refused}
-use Rattle.engine.proofs.Verdicts.{judged-refused}
+use Rattle.engine.proofs.Verdicts.{judged_refused}
 
 module _ (gens : List Word) (target : Word) (n : ℕ) where
   -- reducing the generators and the target first changes no verdict
   pub given_right : (r : Verdict) (before after : List ℕ) → VerdictRight (plain (map nf gens)) (nf target) n r before after → VerdictRight (plain gens) target n r before after
-  given_right (Member count) before after (right, rest) = ((member-reduced gens target n (take count.0 after) count.0).0 right, rest)
-  given_right None before after (right, same) = ((none-reduced gens target n).0 right, same)
+  given_right (Member count) before after (right, rest) = ((member_reduced gens target n (take count.0 after) count.0).0 right, rest)
+  given_right None before after (right, same) = ((none_reduced gens target n).0 right, same)
   given_right (Verdict-as-Refused refusal) before after right = right
 
   given_judged : (asked : Asked) (q : ℕ) (r : Verdict) (before after : Lent) → Judged asked q (plain (map nf gens)) (nf target) n r before after
@@ -53,7 +53,7 @@ module _ (bytes ends target : List ℕ) (n : ℕ) where
   q = side (total gens) (length (nf (word target)))
 
   pub judges_refused : {refusal : Refusal} (lent : Lent) → of_query bytes ends target ≡ Refused refusal → Judges bytes ends target n (Verdict-as-Refused refusal) lent lent
-  judges_refused lent e = judged-refused q (plain gens) (word target) n (asked lent) lent (first_no_refused first_questions (sizes lent ∷ []) e)
+  judges_refused lent e = judged_refused q (plain gens) (word target) n (asked lent) lent (first_no_refused first_questions (sizes lent ∷ []) e)
 
   pub judges_ready : {m t : Letters} {count : ℕ} {posed : Posed-as-Lent} (r : Verdict) (before after : Lent) → PosedReady bytes ends target m t count posed
       → JudgesForm m.0 (map nf gens) (word (take t.0 posed.form)) n r before after → Judges bytes ends target n r before after

@@ -11,7 +11,7 @@ use lib.ListN.{take}
 use Rattle.words.specs.Word.{Word, Equal, back, then}
 use Rattle.words.specs.declared.Factors.{Factors}
 use Rattle.products.specs.Product.{Family, Reaches, Rival, MemberRight}
-use Rattle.products.proofs.Relations.{Relation, member-some, no-factors-no-member}
+use Rattle.products.proofs.Relations.{Relation, member_some, no_factors_no_member}
 use Rattle.engine.specs.Calls.{VerdictRight}
 use Rattle.engine.specs.declared.Verdict.{Verdict}
 use Rattle.engine.specs.declared.Verdict.TheVariants.{Member, None, Refused}
@@ -33,9 +33,9 @@ module _ (family : Family) (target : Word) (before after : List ℕ) where
     relation_found r right identity s (rival, reaches) = found r right s rival (then reaches (back identity))
 
     pub member_counts : (count : Factors) → VerdictRight family target n (Member count) before after → 1 ≤ count.0
-    member_counts count (right, kept) = member-some family target right
+    member_counts count (right, kept) = member_some family target right
 
   pub no_factors : (r : Verdict) → VerdictRight family target 0 r before after → r ≡ None
-  no_factors (Member count) (right, kept) = absurd (no-factors-no-member family target (take count.0 after) count.0 right)
+  no_factors (Member count) (right, kept) = absurd (no_factors_no_member family target (take count.0 after) count.0 right)
   no_factors None right = refl
   no_factors (Refused refusal) right = absurd right

@@ -11,7 +11,7 @@ use Rattle.sizes.specs.Questions.{side}
 use Rattle.sizes.proofs.Passing.{SizesPassed}
 use Rattle.trees.specs.Numbering.{numbered}
 use Rattle.trees.proofs.Remaining.{drop_later}
-use Rattle.tables.proofs.Exact.{tree-fits}
+use Rattle.tables.proofs.Exact.{tree_fits}
 use Rattle.queries.specs.Ready.{ReadyFor}
 use Rattle.search.specs.Search.{Lent, used, Fits, Posed, Answers, Searches}
 use Rattle.search.specs.declared.Found.{Found}
@@ -63,7 +63,7 @@ module _ (n : ℕ) {gens : List Word} {m count : ℕ} {letters rests children_r 
             first = omega (arith, within, passed.first_room);
             second = omega (arith, within, passed.second_room);
           };
-          table = tree-fits ready.tree ready.size (omega (arith, few, ready.short)) passed.bound (omega (arith, within, passed.first_room));
+          table = tree_fits ready.tree ready.size (omega (arith, few, ready.short)) passed.bound (omega (arith, within, passed.first_room));
         }
 
     -- what is searched fits, so what is found is right

@@ -39,7 +39,7 @@ use denote.Triple.Clauses.{closing, ensured, lasts}
 use Rattle.fields.specs.declared.reader.Reader.{Reader}
 use Rattle.fields.specs.contracts.reader.Reader as T
 use Rattle.fields.proofs.reader.Reader.TheLaws as T'
-use Rattle.fields.proofs.ReaderContracts.{reader, at_place, at-reader, place-clauses, reader-clauses, AtReader}
+use Rattle.fields.proofs.ReaderContracts.{reader, at_place, at_reader, place_clauses, reader_clauses, AtReader}
 
 -- the code, for an answer of the MIR type τ
 abbrev pub put_together : Name → Ty → Fn
@@ -83,7 +83,7 @@ module _ (R : RattleType) (τ : Ty) (answer : List ℕ → ℕ → R.Denot) (cal
     found = answer s.now n
 
     abbrev Post : Val → SProp 𝓤
-    Post = (walk_of 𝓛 (at_place R) (stayed R) (place-clauses R answer 𝓤)).post (((κ, tt), (q, tt), tt, (s, (n, tt)), vals), tt)
+    Post = (walk_of 𝓛 (at_place R) (stayed R) (place_clauses R answer 𝓤)).post (((κ, tt), (q, tt), tt, (s, (n, tt)), vals), tt)
 
     abbrev Card : Fml
     Card = (ShrSlice (named 0) κ u8).own_val s (v ∷ [])
@@ -109,13 +109,13 @@ module _ (R : RattleType) (τ : Ty) (answer : List ℕ → ℕ → R.Denot) (cal
         move ! (0 ∷ 2 ∷ []) $ use2 𝓛 (raw ((AtReader R answer 𝓤 𝓛).pre to)) asked $ frame ! $ done !
 
     -- of the callee's `ensured`, the clause alone: it has no `&mut`, so what is said of last values is dropped
-    said : (r : R.Denot) → ent 𝓤 (ensured 𝓛 (at-reader R) (reader-clauses R answer 𝓤) (κ, tt) (made, tt) tt r) (fact 𝓤 (r ≡ found))
-    said r = ex_e 𝓤 _ (λ ws. snd∗ 𝓤 (sem 𝓛 (lasts (at-reader R) (κ, tt) (made, tt) ws)) (fact 𝓤 (r ≡ found)))
+    said : (r : R.Denot) → ent 𝓤 (ensured 𝓛 (at_reader R) (reader_clauses R answer 𝓤) (κ, tt) (made, tt) tt r) (fact 𝓤 (r ≡ found))
+    said r = ex_e 𝓤 _ (λ ws. snd∗ 𝓤 (sem 𝓛 (lasts (at_reader R) (κ, tt) (made, tt) ws)) (fact 𝓤 (r ≡ found)))
 
     exits : (r : R.Denot) (u : Val) → r ≡ found → ent 𝓤 (⋆ 𝓛 (‵ (R.own_val r (u ∷ [])) ∷ (‵ (flft κ q) ⊛ ‵ ftrue) ∷ ‵ Own ∷ [])) (Post u)
     exits r u e =
         qed 𝓛 (‵ (R.own_val r (u ∷ [])) ∷ (‵ (flft κ q) ⊛ ‵ ftrue) ∷ ‵ Own ∷ []) ∵
-        suffices ! _ (ends_at 𝓛 (at_place R) (stayed R) (place-clauses R answer 𝓤) (((κ, tt), (q, tt), tt, (s, (n, tt)), vals), tt) u r (tt, (tt, tt)) (tt, (tt, tt))) $ says ! e $
+        suffices ! _ (ends_at 𝓛 (at_place R) (stayed R) (place_clauses R answer 𝓤) (((κ, tt), (q, tt), tt, (s, (n, tt)), vals), tt) u r (tt, (tt, tt)) (tt, (tt, tt))) $ says ! e $
         move ! (1 ∷ []) $ frame ! $ move ! (1 ∷ []) $ frame ! $ done !
 
     module _ (C : Calls 𝓤 H) (Λ : Loops 𝓤 H) (fm : FmC 𝓤 H 𝓛.laws C) (known : Triple 𝓤 (C callee) (AtReader R answer 𝓤 𝓛)) where
@@ -127,7 +127,7 @@ module _ (R : RattleType) (τ : Ty) (answer : List ℕ → ℕ → R.Denot) (cal
           assigns ! (agg ! (and_then ! (load ! (from ! (stop !)) (look ! 4 refl)) (and_then ! (load ! (from ! (stop !)) (look ! 2 refl)) (no_more !)))) (from ! (stop !)) (init ! 0 refl (tt, (wt.1, (record { fits = fits }, tt)))) $
           move ! (8 ∷ []) $ use1 𝓛 (raw ((AtReader R answer 𝓤 𝓛).pre to) ⊛ ‵ Own) (together fits) $ split ! $
           calls_at ! fm (AtReader R answer 𝓤 𝓛) known to (and_then ! (load ! (from ! (stop !)) (look ! 2 refl)) (no_more !)) (λ u.
-          use1 𝓛 (later (some (λ (r : R.Denot). ((‵ (flft κ q) ⊛ ‵ ftrue) ⊛ ‵ (R.own_val r (u ∷ []))) ⊛ raw (ensured 𝓛 (at-reader R) (reader-clauses R answer 𝓤) (κ, tt) (made, tt) tt r)))) (id⊢ 𝓤 _) $ await ! tt $ pick ! (λ r.
+          use1 𝓛 (later (some (λ (r : R.Denot). ((‵ (flft κ q) ⊛ ‵ ftrue) ⊛ ‵ (R.own_val r (u ∷ []))) ⊛ raw (ensured 𝓛 (at_reader R) (reader_clauses R answer 𝓤) (κ, tt) (made, tt) tt r)))) (id⊢ 𝓤 _) $ await ! tt $ pick ! (λ r.
           split ! $ move ! (1 ∷ []) $ use1 𝓛 (raw (fact 𝓤 (r ≡ found))) (said r) $ heard ! (r ≡ found) (λ e. split ! $ move ! (1 ∷ []) $
           -- [the answer; the token; what the parameters own; _3; …; _2; …; _1; …; room for _0; …]
           peeks ! R (Is R) (shows 𝓛 R) r (u ∷ []) (λ is.
@@ -136,11 +136,11 @@ module _ (R : RattleType) (τ : Ty) (answer : List ℕ → ℕ → R.Denot) (cal
           move ! (9 ∷ 10 ∷ []) $ free1 ! $ move ! (7 ∷ 8 ∷ []) $ free1 ! $ move ! (5 ∷ 6 ∷ []) $ free1 ! $ move ! (3 ∷ 4 ∷ []) $ free1 ! $ free0 ! $ by ! (exits r u e)))))))))
 
   walks : (C : Calls 𝓤 H) (Λ : Loops 𝓤 H) → FmC 𝓤 H 𝓛.laws C → Triple 𝓤 (C callee) (AtReader R answer 𝓤 𝓛)
-      → Walks 𝓛 (at_place R) (stayed R) (WpFn 𝓤 H C Λ (put_together callee τ)) (place-clauses R answer 𝓤)
-  walks C Λ fm known = walked 𝓛 (at_place R) (stayed R) (place-clauses R answer 𝓤) (WpFn 𝓤 H C Λ (put_together callee τ)) (λ κs. (shr_slice_vals, (uint_vals w64, tt))) (λ κs. (shr_slice_Tells (named 0) κs.0 u8, (uint_Tells w64, tt)))
+      → Walks 𝓛 (at_place R) (stayed R) (WpFn 𝓤 H C Λ (put_together callee τ)) (place_clauses R answer 𝓤)
+  walks C Λ fm known = walked 𝓛 (at_place R) (stayed R) (place_clauses R answer 𝓤) (WpFn 𝓤 H C Λ (put_together callee τ)) (λ κs. (shr_slice_vals, (uint_vals w64, tt))) (λ κs. (shr_slice_Tells (named 0) κs.0 u8, (uint_Tells w64, tt)))
       (λ κs qs bounds a g are. via 𝓤 _ (fst∗ 𝓤 _ (emp 𝓤)) (walk κs.0 qs.0 a.0 a.1.0 C Λ fm known are.1.0.1 ((shr_slice_Lawful 𝓛 (named 0) κs.0 u8).typed a.0 _ are.0).0))
 
   pub put_together_meets : (𝓣 : Tables 𝓤 H) → Triple 𝓤 (𝓣.C callee) (AtReader R answer 𝓤 𝓛)
-      → Meets 𝓛 (at_place R).signature (WpFn 𝓤 H 𝓣.C 𝓣.Λ (put_together callee τ)) (closing 𝓛 (at_place R) (place-clauses R answer 𝓤))
-  put_together_meets 𝓣 known = walk_Meets 𝓛 (at_place R) (stayed R) (Goes-none_slice 𝓛 1 (0 ∷ []) tt (plain (λ _. u8)) yes, (Goes-none 𝓛 1 (λ _. usize) yes (λ κs x f. refl), tt)) (place-clauses R answer 𝓤) (WpFn 𝓤 H 𝓣.C 𝓣.Λ (put_together callee τ)) (WpFn-mono 𝓤 H 𝓛.laws 𝓣 (put_together callee τ))
+      → Meets 𝓛 (at_place R).signature (WpFn 𝓤 H 𝓣.C 𝓣.Λ (put_together callee τ)) (closing 𝓛 (at_place R) (place_clauses R answer 𝓤))
+  put_together_meets 𝓣 known = walk_Meets 𝓛 (at_place R) (stayed R) (Goes-none_slice 𝓛 1 (0 ∷ []) tt (plain (λ _. u8)) yes, (Goes-none 𝓛 1 (λ _. usize) yes (λ κs x f. refl), tt)) (place_clauses R answer 𝓤) (WpFn 𝓤 H 𝓣.C 𝓣.Λ (put_together callee τ)) (WpFn-mono 𝓤 H 𝓛.laws 𝓣 (put_together callee τ))
       (walks 𝓣.C 𝓣.Λ (fm_of 𝓤 H 𝓛.laws 𝓣) known)

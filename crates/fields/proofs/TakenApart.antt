@@ -40,7 +40,7 @@ use denote.Triple.Clauses.{closing, ensured, lasts}
 use Rattle.fields.specs.declared.reader.Reader.{Reader}
 use Rattle.fields.specs.contracts.reader.Reader as T
 use Rattle.fields.proofs.reader.Reader.TheLaws as T'
-use Rattle.fields.proofs.ReaderContracts.{reader, at_place, at-reader, place-clauses, reader-clauses, AtPlace}
+use Rattle.fields.proofs.ReaderContracts.{reader, at_place, at_reader, place_clauses, reader_clauses, AtPlace}
 
 -- the code, for an answer of the MIR type τ
 abbrev pub taken_apart : Name → Ty → Fn
@@ -57,7 +57,7 @@ taken_apart callee τ = record {
 }
 
 module _ (R : RattleType) where
-  abbrev stayed : Stays (at-reader R).signature.params (at-reader R).kept
+  abbrev stayed : Stays (at_reader R).signature.params (at_reader R).kept
   stayed = (stay_none reader yes, tt)
 
 module _ (R : RattleType) (τ : Ty) (answer : List ℕ → ℕ → R.Denot) (callee : Name) {M : Type 1} {𝓤 : Ura M} (𝓛 : Logic 𝓤)
@@ -76,7 +76,7 @@ module _ (R : RattleType) (τ : Ty) (answer : List ℕ → ℕ → R.Denot) (cal
     found = answer d.card.now d.used
 
     abbrev Post : Val → SProp 𝓤
-    Post = (walk_of 𝓛 (at-reader R) (stayed R) (reader-clauses R answer 𝓤)).post (((κ, tt), (q, tt), tt, (d, tt), (mach ∷ [], tt)), tt)
+    Post = (walk_of 𝓛 (at_reader R) (stayed R) (reader_clauses R answer 𝓤)).post (((κ, tt), (q, tt), tt, (d, tt), (mach ∷ [], tt)), tt)
 
     abbrev Own : Fml
     Own = (reader (κ, tt)).own_val d (mach ∷ [])
@@ -102,7 +102,7 @@ module _ (R : RattleType) (τ : Ty) (answer : List ℕ → ℕ → R.Denot) (cal
     asked = qed 𝓛 ((‵ (flft κ q) ⊛ ‵ ftrue) ∷ ‵ (owns (ShrSlice (named 0) κ u8 ∷ usize ∷ []) (d.card, (d.used, tt)) passed) ∷ []) ∵ join ! $ frame ! $ done !
 
     -- what the reader owns gives what the callee asks, and is kept
-    apart : d.used < 2 ^ 64 → ent 𝓤 (on_entry 𝓛 (at-reader R).signature (κ, tt) (q, tt) (d, tt) (mach ∷ [], tt)) (sep 𝓤 ((AtPlace R answer 𝓤 𝓛).pre to) (sem 𝓛 Own))
+    apart : d.used < 2 ^ 64 → ent 𝓤 (on_entry 𝓛 (at_reader R).signature (κ, tt) (q, tt) (d, tt) (mach ∷ [], tt)) (sep 𝓤 ((AtPlace R answer 𝓤 𝓛).pre to) (sem 𝓛 Own))
     apart fits =
         qed 𝓛 ((‵ (flft κ q) ⊛ ‵ ftrue) ∷ ‵ (owns (reader (κ, tt) ∷ []) (d, tt) (mach ∷ [], tt)) ∷ []) ∵
         move ! (1 ∷ []) $ fsplit ! $ move ! (1 ∷ []) $ drop ! $ use1 𝓛 (‵ Own ⊛ ‵ Own) ((LL.copy D (T'.the_copy (named_lft 1 0 tt (κ, tt))) 𝓛).twice d (mach ∷ [])) $ split ! $
@@ -112,25 +112,25 @@ module _ (R : RattleType) (τ : Ty) (answer : List ℕ → ℕ → R.Denot) (cal
         move ! (2 ∷ 0 ∷ []) $ use2 𝓛 (raw ((AtPlace R answer 𝓤 𝓛).pre to)) asked $ frame ! $ done !)
 
     -- of the callee's `ensured`, the clause alone: it has no `&mut`, so what is said of last values is dropped
-    said : (r : R.Denot) → ent 𝓤 (ensured 𝓛 (at_place R) (place-clauses R answer 𝓤) (κ, tt) (d.card, (d.used, tt)) tt r) (fact 𝓤 (r ≡ found))
+    said : (r : R.Denot) → ent 𝓤 (ensured 𝓛 (at_place R) (place_clauses R answer 𝓤) (κ, tt) (d.card, (d.used, tt)) tt r) (fact 𝓤 (r ≡ found))
     said r = ex_e 𝓤 _ (λ ws. snd∗ 𝓤 (sem 𝓛 (lasts (at_place R) (κ, tt) (d.card, (d.used, tt)) ws)) (fact 𝓤 (r ≡ found)))
 
     exits : (r : R.Denot) (u : Val) → r ≡ found → ent 𝓤 (⋆ 𝓛 (‵ (R.own_val r (u ∷ [])) ∷ (‵ (flft κ q) ⊛ ‵ ftrue) ∷ ‵ Own ∷ [])) (Post u)
     exits r u e =
         qed 𝓛 (‵ (R.own_val r (u ∷ [])) ∷ (‵ (flft κ q) ⊛ ‵ ftrue) ∷ ‵ Own ∷ []) ∵
-        suffices ! _ (ends_at 𝓛 (at-reader R) (stayed R) (reader-clauses R answer 𝓤) (((κ, tt), (q, tt), tt, (d, tt), (mach ∷ [], tt)), tt) u r (tt, tt) (tt, tt)) $ says ! e $
+        suffices ! _ (ends_at 𝓛 (at_reader R) (stayed R) (reader_clauses R answer 𝓤) (((κ, tt), (q, tt), tt, (d, tt), (mach ∷ [], tt)), tt) u r (tt, tt) (tt, tt)) $ says ! e $
         move ! (1 ∷ []) $ frame ! $ nothing ! $ move ! (2 ∷ 0 ∷ []) $ fjoin ! $ frame ! $ done !
 
     module _ (C : Calls 𝓤 H) (Λ : Loops 𝓤 H) (fm : FmC 𝓤 H 𝓛.laws C) (known : Triple 𝓤 (C callee) (AtPlace R answer 𝓤 𝓛)) where
-      walk : Holds (has_ty (T'.mir (named 0)) mach) × WT mach → ent 𝓤 (on_entry 𝓛 (at-reader R).signature (κ, tt) (q, tt) (d, tt) (mach ∷ [], tt)) (WpFn 𝓤 H C Λ (taken_apart callee τ) (mach ∷ []) Post)
+      walk : Holds (has_ty (T'.mir (named 0)) mach) × WT mach → ent 𝓤 (on_entry 𝓛 (at_reader R).signature (κ, tt) (q, tt) (d, tt) (mach ∷ [], tt)) (WpFn 𝓤 H C Λ (taken_apart callee τ) (mach ∷ []) Post)
       walk wt =
-          qed 𝓛 (raw (on_entry 𝓛 (at-reader R).signature (κ, tt) (q, tt) (d, tt) (mach ∷ [], tt)) ∷ []) ∵ enter ! C Λ (taken_apart callee τ) (mach ∷ []) _ $
+          qed 𝓛 (raw (on_entry 𝓛 (at_reader R).signature (κ, tt) (q, tt) (d, tt) (mach ∷ [], tt)) ∷ []) ∵ enter ! C Λ (taken_apart callee τ) (mach ∷ []) _ $
           alloc1 ! (λ l₀. alloc1 ! (λ l₁. alloc1 ! (λ l₂. alloc1 ! (λ l₃. alloc0 ! $ params1 ! $ pass1 ! (init ! 4 refl wt) $ pass0 ! $
           assigns ! (of_opd ! (load ! (from ! (fld ! refl (stop !))) (look_in ! 4 (sub ! 0 refl (whole !))))) (from ! (stop !)) (init ! 2 refl (tt, wt.1.0)) $
           assigns ! (of_opd ! (load ! (from ! (fld ! refl (stop !))) (look_in ! 4 (sub ! 1 refl (whole !))))) (from ! (stop !)) (init ! 0 refl (tt, wt.1.1.0)) $
           move ! (8 ∷ []) $ use1 𝓛 (raw ((AtPlace R answer 𝓤 𝓛).pre to) ⊛ ‵ Own) (apart wt.1.1.0.fits) $ split ! $
           calls_at ! fm (AtPlace R answer 𝓤 𝓛) known to (and_then ! (load ! (from ! (stop !)) (look ! 4 refl)) (and_then ! (load ! (from ! (stop !)) (look ! 2 refl)) (no_more !))) (λ u.
-          use1 𝓛 (later (some (λ (r : R.Denot). ((‵ (flft κ q) ⊛ ‵ ftrue) ⊛ ‵ (R.own_val r (u ∷ []))) ⊛ raw (ensured 𝓛 (at_place R) (place-clauses R answer 𝓤) (κ, tt) (d.card, (d.used, tt)) tt r)))) (id⊢ 𝓤 _) $ await ! tt $ pick ! (λ r.
+          use1 𝓛 (later (some (λ (r : R.Denot). ((‵ (flft κ q) ⊛ ‵ ftrue) ⊛ ‵ (R.own_val r (u ∷ []))) ⊛ raw (ensured 𝓛 (at_place R) (place_clauses R answer 𝓤) (κ, tt) (d.card, (d.used, tt)) tt r)))) (id⊢ 𝓤 _) $ await ! tt $ pick ! (λ r.
           split ! $ move ! (1 ∷ []) $ use1 𝓛 (raw (fact 𝓤 (r ≡ found))) (said r) $ heard ! (r ≡ found) (λ e. split ! $ move ! (1 ∷ []) $
           -- [the answer; the token; what the reader owns; _3; …; _2; …; _1; …; room for _0; …]
           peeks ! R (Is R) (shows 𝓛 R) r (u ∷ []) (λ is.
@@ -139,11 +139,11 @@ module _ (R : RattleType) (τ : Ty) (answer : List ℕ → ℕ → R.Denot) (cal
           move ! (9 ∷ 10 ∷ []) $ free1 ! $ move ! (7 ∷ 8 ∷ []) $ free1 ! $ move ! (5 ∷ 6 ∷ []) $ free1 ! $ move ! (3 ∷ 4 ∷ []) $ free1 ! $ free0 ! $ by ! (exits r u e)))))))))
 
   walks : (C : Calls 𝓤 H) (Λ : Loops 𝓤 H) → FmC 𝓤 H 𝓛.laws C → Triple 𝓤 (C callee) (AtPlace R answer 𝓤 𝓛)
-      → Walks 𝓛 (at-reader R) (stayed R) (WpFn 𝓤 H C Λ (taken_apart callee τ)) (reader-clauses R answer 𝓤)
-  walks C Λ fm known = walked 𝓛 (at-reader R) (stayed R) (reader-clauses R answer 𝓤) (WpFn 𝓤 H C Λ (taken_apart callee τ)) (λ κs. (LL.vals (T.the_type (named_lft 1 0 tt κs)) (T'.the_laws (named_lft 1 0 tt κs)), tt)) (λ κs. (LL.tells (T.the_type (named_lft 1 0 tt κs)) (T'.the_laws (named_lft 1 0 tt κs)), tt))
+      → Walks 𝓛 (at_reader R) (stayed R) (WpFn 𝓤 H C Λ (taken_apart callee τ)) (reader_clauses R answer 𝓤)
+  walks C Λ fm known = walked 𝓛 (at_reader R) (stayed R) (reader_clauses R answer 𝓤) (WpFn 𝓤 H C Λ (taken_apart callee τ)) (λ κs. (LL.vals (T.the_type (named_lft 1 0 tt κs)) (T'.the_laws (named_lft 1 0 tt κs)), tt)) (λ κs. (LL.tells (T.the_type (named_lft 1 0 tt κs)) (T'.the_laws (named_lft 1 0 tt κs)), tt))
       (λ κs qs bounds a g are. via 𝓤 _ (fst∗ 𝓤 _ (emp 𝓤)) (walk κs.0 qs.0 a.0 C Λ fm known ((LL.lawful (T.the_type (named_lft 1 0 tt κs)) (T'.the_laws (named_lft 1 0 tt κs)) 𝓛).typed a.0 _ are.0).0))
 
   pub taken_apart_meets : (𝓣 : Tables 𝓤 H) → Triple 𝓤 (𝓣.C callee) (AtPlace R answer 𝓤 𝓛)
-      → Meets 𝓛 (at-reader R).signature (WpFn 𝓤 H 𝓣.C 𝓣.Λ (taken_apart callee τ)) (closing 𝓛 (at-reader R) (reader-clauses R answer 𝓤))
-  taken_apart_meets 𝓣 known = walk_Meets 𝓛 (at-reader R) (stayed R) (Goes-none 𝓛 1 reader yes (λ κs x f. refl), tt) (reader-clauses R answer 𝓤) (WpFn 𝓤 H 𝓣.C 𝓣.Λ (taken_apart callee τ)) (WpFn-mono 𝓤 H 𝓛.laws 𝓣 (taken_apart callee τ))
+      → Meets 𝓛 (at_reader R).signature (WpFn 𝓤 H 𝓣.C 𝓣.Λ (taken_apart callee τ)) (closing 𝓛 (at_reader R) (reader_clauses R answer 𝓤))
+  taken_apart_meets 𝓣 known = walk_Meets 𝓛 (at_reader R) (stayed R) (Goes-none 𝓛 1 reader yes (λ κs x f. refl), tt) (reader_clauses R answer 𝓤) (WpFn 𝓤 H 𝓣.C 𝓣.Λ (taken_apart callee τ)) (WpFn-mono 𝓤 H 𝓛.laws 𝓣 (taken_apart callee τ))
       (walks 𝓣.C 𝓣.Λ (fm_of 𝓤 H 𝓛.laws 𝓣) known)

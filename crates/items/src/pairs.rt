@@ -1,6 +1,6 @@
 // The parts of a pair of nodes.
 ghost use Rattle.std.specs.Prelude.{◌≡◌, ◌-◌, ◌≤◌};
-ghost use Rattle.derivations.specs.Ways.{by_factor, ofPair};
+ghost use Rattle.derivations.specs.Ways.{by_factor, of_pair};
 
 use crate::halves::halves;
 use crate::shifts::{only_one, shift};
@@ -37,7 +37,7 @@ pub(crate) fn of_pair(
     d: usize,
 ) -> Parts
     requires { 1 ≤ x }
-    ensures { result ≡ ofPair count letters.now rests.now children_r.now children_s.now
+    ensures { result ≡ of_pair count letters.now rests.now children_r.now children_s.now
         wholes.now counts.now (x - 1) y d }
 {
     if x == 1 {

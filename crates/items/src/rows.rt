@@ -1,6 +1,6 @@
 // The parts of a row of the target at a node.
 ghost use Rattle.std.specs.Prelude.{◌≡◌, ◌+◌, ◌<◌, ◌^◌};
-ghost use Rattle.derivations.specs.Ways.{row_item, nextRow as next_row_of};
+ghost use Rattle.derivations.specs.Ways.{row_item, next_row as next_row_of};
 
 use crate::shifts::{child_by, letter_of, only_one};
 use derivations::Parts;

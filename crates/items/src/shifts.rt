@@ -1,7 +1,7 @@
 // Letters and children of nodes, and the shift of a pair: a pair that is the same element, and so has the same series.
 ghost use Rattle.std.specs.Prelude.{◌≡◌, ◌≤◌};
 ghost use Rattle.trees.specs.Tree.{at, most_of_entry};
-ghost use Rattle.derivations.specs.Ways.{only, childBy, beginsS, alike, over, shift as shift_of};
+ghost use Rattle.derivations.specs.Ways.{only, child_by, begins_s, alike, over, shift as shift_of};
 ghost use Rattle.derivations.specs.declared.Parts.TheVariants.{One};
 
 use derivations::Parts;
@@ -19,7 +19,7 @@ pub(crate) fn letter_of(letters: &[u8], p: usize) -> u8
 
 // The node with that letter in front of v's word; 0 where there is none.
 pub(crate) fn child_by(children_r: &[u16], children_s: &[u16], byte: u8, v: usize) -> usize
-    ensures { (result ≡ childBy children_r.now children_s.now byte v) × (result ≤ most_of_entry) }
+    ensures { (result ≡ child_by children_r.now children_s.now byte v) × (result ≤ most_of_entry) }
 {
     if byte == 82 {
         return entry(children_r, v);
@@ -29,7 +29,7 @@ pub(crate) fn child_by(children_r: &[u16], children_s: &[u16], byte: u8, v: usiz
 
 // Does the word of p begin with S?
 pub(crate) fn begins_s(letters: &[u8], p: usize) -> bool
-    ensures { result ≡ beginsS letters.now p }
+    ensures { result ≡ begins_s letters.now p }
 {
     if p == 0 {
         return false;
@@ -68,7 +68,7 @@ fn carried(
 ) -> Parts
     ensures { result ≡ over letters.now rests.now children_s.now
         (at letters.now p) (at rests.now p)
-        (childBy children_r.now children_s.now (at letters.now p) y) }
+        (child_by children_r.now children_s.now (at letters.now p) y) }
 {
     let byte = letter_of(letters, p);
     let a = entry(rests, p);

@@ -15,8 +15,8 @@ use Rattle.refusals.specs.declared.Asked.{Asked}
 use Rattle.refusals.specs.declared.Asked.TheVariants.{Passed, Refused}
 use Rattle.products.specs.Product.{generators, Family, plain, signed, with_inverses, NoneRight, NoRight}
 use Rattle.residues.specs.Residues.{QuickNoRight}
-use Rattle.residues.proofs.Quick.{quick-no, quick-none}
-use Rattle.residues.proofs.Inverses.{signed-none}
+use Rattle.residues.proofs.Quick.{quick_no, quick_none}
+use Rattle.residues.proofs.Inverses.{signed_none}
 use Rattle.lists.specs.NormalList.{total}
 use Rattle.sizes.specs.Questions.{side}
 use Rattle.engine.specs.Questions.{of_product}
@@ -57,17 +57,17 @@ module _ (bytes ends target : List ℕ) (given : Answers bytes ends target No) w
   judge_no_member n count before after =
       no_member (of_product bytes ends target (word target) n (length before.first) (length before.second) (length before.witness))
       (side (total (generators bytes ends)) (length (nf (word target)))) (plain (generators bytes ends)) (word target) n count before after
-      (quick-none (plain (generators bytes ends)) (word target) no_product n)
+      (quick_none (plain (generators bytes ends)) (word target) no_product n)
 
   pub judge_subgroup_no_member : (n : ℕ) (count : Factors) (before after : Lent) (slice slice' : List ℕ)
       → JudgesSigned bytes ends target n (Member count) before after slice slice' → ⊥
   judge_subgroup_no_member n count before after slice slice' judges =
       no_member (of_signed bytes ends target n (length before.first) (length before.second) (length before.witness) (length slice))
       (side (total (with_inverses (generators bytes ends))) (length (nf (word target)))) (signed (generators bytes ends)) (word target) n count before after
-      (signed-none (generators bytes ends) (word target) no_product n)
+      (signed_none (generators bytes ends) (word target) no_product n)
       judges.judged
 
   pub reachable_no_yes : (before after : Reach-as-Lent) → Reaches bytes ends target Yes before after → ⊥
   reachable_no_yes before after =
       no_yes (of_reachable bytes ends target (length before.first) (length before.second))
-      (side (total (generators bytes ends)) (length (nf (word target)))) (generators bytes ends) (word target) before after (quick-no (plain (generators bytes ends)) (word target) no_product)
+      (side (total (generators bytes ends)) (length (nf (word target)))) (generators bytes ends) (word target) before after (quick_no (plain (generators bytes ends)) (word target) no_product)

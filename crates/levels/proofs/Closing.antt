@@ -12,8 +12,8 @@ use lib.ListN.{length, set, length-set, get_or-eq_default}
 use lib.Seq.{get_or-set_same, get_or-set_other}
 use Rattle.levels.specs.Levels.{entry, Relaxed, Rules, Using, first, second, Closed}
 use Rattle.levels.specs.Passes.{Bounded, Counts, Sound, Premise, Forward}
-use Rattle.levels.proofs.Relaxing.{here, elsewhere, stored, lowers-falls, lowers-floor}
-use Rattle.levels.proofs.Passing.{bounded_relaxed, using-sound}
+use Rattle.levels.proofs.Relaxing.{here, elsewhere, stored, lowers_falls, lowers_floor}
+use Rattle.levels.proofs.Passing.{bounded_relaxed, using_sound}
 
 -- The conclusion of each rule whose premises were both used is led to.
 pub record UsedUp (Rule : Rules) (t : List ℕ) : Type 0 where
@@ -51,12 +51,12 @@ module _ {Rule : Rules} {z : ℕ} (t : List ℕ) {t' : List ℕ} (fresh : entry 
   pub use_falls : (p : ℕ) → entry t' p ≤ entry t p
   use_falls p =
       elim (stored t z 0 p within) [
-        | here e v ↦ omega (arith, lowers-falls relaxed.lowers p)
-        | elsewhere v ↦ omega (arith, lowers-falls relaxed.lowers p)
+        | here e v ↦ omega (arith, lowers_falls relaxed.lowers p)
+        | elsewhere v ↦ omega (arith, lowers_falls relaxed.lowers p)
       ]
 
   pub use_clears : entry t' z ≡ 0
-  use_clears = omega (arith, get_or-set_same t z 0 0 within, lowers-falls relaxed.lowers z)
+  use_clears = omega (arith, get_or-set_same t z 0 0 within, lowers_falls relaxed.lowers z)
 
   pub use_bounded : {n N : ℕ} → Bounded n N t → Bounded n N t'
   use_bounded bounded = bounded_relaxed (cleared_bounded t z within bounded) relaxed
@@ -65,7 +65,7 @@ module _ {Rule : Rules} {z : ℕ} (t : List ℕ) {t' : List ℕ} (fresh : entry 
   zero_before : (p : ℕ) → entry t' p ≡ 0 → entry (set t z 0) p ≡ 0
   zero_before p now =
       elim (dec_lt 0 (entry (set t z 0) p)) [
-        | yes positive ↦ absurd (omega (arith, lowers-floor relaxed.lowers (le_refl 1) p (omega arith)))
+        | yes positive ↦ absurd (omega (arith, lowers_floor relaxed.lowers (le_refl 1) p (omega arith)))
         | no none ↦ omega arith
       ]
 
@@ -94,7 +94,7 @@ module _ {Rule : Rules} {z : ℕ} (t : List ℕ) {t' : List ℕ} (fresh : entry 
     pub use_sound : (Led : ℕ → Type 0) → ((p q c v w : ℕ) → Rule p q c → Led p → Premise (Reached Led) N q w → Led c)
         → Sound (Reached Led) 1 t → Sound (Reached Led) 1 t'
     use_sound Led leads sound =
-        using-sound rules (Reached Led) 1 leads (length-set t z 0 ∙ long) (omega (arith, within, long)) (sound z within (omega arith))
+        using_sound rules (Reached Led) 1 leads (length-set t z 0 ∙ long) (omega (arith, within, long)) (sound z within (omega arith))
         relaxed.lowers sound_cleared
       where
         sound_cleared : Sound (Reached Led) 1 (set t z 0)

@@ -11,7 +11,7 @@ use native.Mathlib.Omega.{arith}
 use lib.ListN.{length, get_or-eq_default}
 use Rattle.levels.specs.Levels.{entry, Uses, Lowers, Relaxed, Rules, Using, first, second, Closed}
 use Rattle.levels.specs.Passes.{Bounded, Counts, Sound, Premise, led, missing, Forward, Settled, Passed, NoneBetween}
-use Rattle.levels.proofs.Relaxing.{lowers-length, lowers-falls, lowers-keeps, lowers-floor, lowers-to-level, lowers-sound}
+use Rattle.levels.proofs.Relaxing.{lowers_length, lowers_falls, lowers_keeps, lowers_floor, lowers_to_level, lowers_sound}
 
 pub counts_bounded : {n N : ℕ} {t : List ℕ} → Counts n N t → Bounded n N t
 counts_bounded counts = record { long = counts.long; high = counts.high }
@@ -19,8 +19,8 @@ counts_bounded counts = record { long = counts.long; high = counts.high }
 pub bounded_relaxed : {n N k : ℕ} {Y : Uses} {t t' : List ℕ} → Bounded n N t → Relaxed k Y t t' → Bounded n N t'
 bounded_relaxed bounded relaxed =
     record {
-      long = lowers-length relaxed.lowers ∙ bounded.long;
-      high = λ p inside. omega (arith, lowers-falls relaxed.lowers p, bounded.high p inside);
+      long = lowers_length relaxed.lowers ∙ bounded.long;
+      high = λ p inside. omega (arith, lowers_falls relaxed.lowers p, bounded.high p inside);
     }
 
 pub counts_relaxed : {n N k : ℕ} {Y : Uses} {t t' : List ℕ} → Counts n N t → 1 ≤ k → Relaxed k Y t t' → Counts n N t'
@@ -28,7 +28,7 @@ counts_relaxed counts positive relaxed =
     let bounded = bounded_relaxed (counts_bounded counts) relaxed in
     record {
       long = bounded.long;
-      low = λ p inside. lowers-floor relaxed.lowers positive p (counts.low p inside);
+      low = λ p inside. lowers_floor relaxed.lowers positive p (counts.low p inside);
       high = bounded.high;
     }
 
@@ -65,7 +65,7 @@ module _ {Rule : Rules} {N : ℕ} (rules : Forward Rule N) where
   pub using_sound : (Led : ℕ → ℕ → Type 0) (m : ℕ) {k z : ℕ} {t t' : List ℕ} → ((p q c v w : ℕ) → Rule p q c → Led p v → Premise Led N q w → Led c (v + w))
       → length t ≡ N → z < N → Led z k → Lowers k (Using Rule z) t t' → Sound Led m t → Sound Led m t'
   using_sound Led m {k} {z} {t} leads long inside z_led run sound =
-      lowers-sound Led m (λ q c v uses premise. sound_store uses (subst (λ (l : ℕ). Premise Led l q v) long premise)) run sound
+      lowers_sound Led m (λ q c v uses premise. sound_store uses (subst (λ (l : ℕ). Premise Led l q v) long premise)) run sound
     where
       sound_store : {q c v : ℕ} → Using Rule z q c → Premise Led N q v → Led c (k + v)
       sound_store {q} {c} {v} (first r) premise = leads z q c k v r z_led premise
@@ -75,9 +75,9 @@ module _ {Rule : Rules} {N : ℕ} (rules : Forward Rule N) where
   module _ {n k z : ℕ} {t t' : List ℕ} (counts : Counts n N t) (positive : 1 ≤ k) (level : entry t z ≡ k) (relaxed : Relaxed k (Using Rule z) t t') where
     -- what was stored while z was relaxed is above the level, or at it behind z
     settled_not_stored : (p : ℕ) → k < entry t p → Settled t' k (z + 1) p → ⊥
-    settled_not_stored p high (inl below) = omega (arith, lowers-floor relaxed.lowers (le_refl k) p (omega arith))
+    settled_not_stored p high (inl below) = omega (arith, lowers_floor relaxed.lowers (le_refl k) p (omega arith))
     settled_not_stored p high (inr at_level) =
-        elim (lowers-to-level relaxed.lowers positive (λ q inside. counts.low q (omega (arith, counts.long))) p (omega arith)) [
+        elim (lowers_to_level relaxed.lowers positive (λ q inside. counts.low q (omega (arith, counts.long))) p (omega arith)) [
           | inl low ↦ omega arith
           | inr rule ↦ omega (arith, using_later rule.2 (omega (arith, rule.1, counts.long)))
         ]
@@ -85,7 +85,7 @@ module _ {Rule : Rules} {N : ℕ} (rules : Forward Rule N) where
     settled_kept : (p : ℕ) → Settled t' k (z + 1) p → entry t' p ≡ entry t p
     settled_kept p settled =
         elim (dec_le (entry t p) k) [
-          | yes low ↦ lowers-keeps relaxed.lowers p low
+          | yes low ↦ lowers_keeps relaxed.lowers p low
           | no high ↦ absurd (settled_not_stored p (omega arith) settled)
         ]
 
@@ -105,7 +105,7 @@ module _ {Rule : Rules} {N : ℕ} (rules : Forward Rule N) where
                 | no q_other ↦
                     let p_before : Settled t k z p = settled_before t t' p p_kept (λ e. p_other) p_settled in
                     let q_before : Settled t k z q = settled_before t t' q q_kept (λ e. q_other) q_settled in
-                    omega (arith, passed.holds p q c r p_before q_before, lowers-falls relaxed.lowers c)
+                    omega (arith, passed.holds p q c r p_before q_before, lowers_falls relaxed.lowers c)
               ]
             ]
 

@@ -11,7 +11,7 @@ use Rattle.words.specs.Bytes.{bytes}
 use Rattle.slices.specs.Slices.{overwritten}
 use Rattle.words.proofs.Answering.{take_overwritten}
 use Rattle.words.proofs.Bytes.{length_bytes}
-use Rattle.slices.proofs.Slices.{front-stored}
+use Rattle.slices.proofs.Slices.{front_stored}
 use Rattle.lists.specs.NormalList.{total, normal_bytes, normal_ends}
 use Rattle.lists.specs.Reducing.{InFront}
 use Rattle.lists.proofs.NormalList.{normal_ends_length, total_append, normal_bytes_append, normal_ends_append}
@@ -68,7 +68,7 @@ module _ (gens : List Word) (old_ends : List ℕ) (all : List Word) (sum i : ℕ
             ∙ ap₂ (λ (x y : List ℕ). x ++ y) f.letters (take_all len (bytes (nf g)) (omega (arith, spelled)))
             ∙ sym (ap normal_bytes front ∙ normal_bytes_append done (g ∷ []) ∙ ap (λ (l : List ℕ). normal_bytes done ++ l) (append-nil (bytes (nf g))));
         ends_is =
-            ap (λ (o : List ℕ). set o i (sum + len)) f.ends_is ∙ front-stored (normal_ends 0 done) old_ends i ends_length (sum + len) room_ends
+            ap (λ (o : List ℕ). set o i (sum + len)) f.ends_is ∙ front_stored (normal_ends 0 done) old_ends i ends_length (sum + len) room_ends
             ∙ ap (λ (k : ℕ). overwritten (normal_ends 0 done ++ k ∷ []) old_ends) (sym end)
             ∙ ap (λ (e : List ℕ). overwritten e old_ends) (sym (ap (normal_ends 0) front ∙ normal_ends_append 0 done (g ∷ [])));
       }

@@ -17,8 +17,8 @@ use Rattle.products.proofs.Doubled.{doubled_length}
 use Rattle.lists.specs.Questions.{last_end}
 use Rattle.lists.specs.NormalList.{total}
 use Rattle.lists.specs.Reducing.{AllLetters, ReducedFrom, InFront}
-use Rattle.lists.proofs.Behind.{Behind, generators-next, behind-next, behind-within}
-use Rattle.lists.proofs.Forms.{Forming, forming_behind, forming-more, forming_all}
+use Rattle.lists.proofs.Behind.{Behind, generators_next, behind_next, behind_within}
+use Rattle.lists.proofs.Forms.{Forming, forming_behind, forming_more, forming_all}
 use Rattle.lists.proofs.NormalList.{normal_bytes_length, normal_ends_length, normal_list, normal_letters, normal_ends_rising, normal_ends_last, total_take}
 use Rattle.lists.proofs.ShortForms.{form_short, total_short, signed_short}
 
@@ -84,7 +84,7 @@ module _ (gens : List Word) {letters ends : List ℕ} (old_ends : List ℕ) {sum
     next = rw (add-one i) (drop-cons gens i [] (omega (arith, ends_count gens r)))
 
     split : word (slice from end letters) ∷ generators_from letters end (drop (i + 1) ends) ≡ nf g ∷ map nf (drop (i + 1) gens)
-    split = sym (generators-next letters ends from i here e) ∙ v.given ∙ ap (map nf) next
+    split = sym (generators_next letters ends from i here e) ∙ v.given ∙ ap (map nf) next
 
     form : word (slice from end letters) ≡ nf g
     form = ap (λ (l : List Word). get_or l 0 []) split
@@ -93,7 +93,7 @@ module _ (gens : List Word) {letters ends : List ℕ} (old_ends : List ℕ) {sum
     inverting_short =
         omega (
           arith,
-          length-slice from end letters (behind-within letters ends from i here e v.behind),
+          length-slice from end letters (behind_within letters ends from i here e v.behind),
           length-map (slice from end letters) letter,
           ap length form,
           form_short gens r.short i (omega (arith, ends_count gens r)),
@@ -105,10 +105,10 @@ module _ (gens : List Word) {letters ends : List ℕ} (old_ends : List ℕ) {sum
         let inverted : nf (inverse (word (slice from end letters))) ≡ nf (inverse g) = ap (λ (w : Word). nf (inverse w)) form ∙ nf_inverse_nf g in
         let place : length ends + i + 1 ≡ length ends + (i + 1) = omega arith in
         record {
-          behind = behind-next letters ends from i here e v.behind;
+          behind = behind_next letters ends from i here e v.behind;
           given = ap (drop 1) split;
           forming =
               subst (λ (n : ℕ). Forming (with_inverses gens) old_ends (inverses (drop (i + 1) gens)) (sum + len) n out' (set out_ends (length ends + i) (sum + len))) place
-              (forming-more (with_inverses gens) old_ends (inverses (drop i gens)) sum (length ends + i) out out_ends v.forming (inverse g) (inverses (drop (i + 1) gens)) (ap inverses next)
+              (forming_more (with_inverses gens) old_ends (inverses (drop i gens)) sum (length ends + i) out out_ends v.forming (inverse g) (inverses (drop (i + 1) gens)) (ap inverses next)
               (omega (arith, signed_count gens r)) len (l ∙ ap length inverted) (writes ∙ ap (λ (w : Word). paste out sum (bytes w) len) inverted) room room_ends);
         }

@@ -17,7 +17,7 @@ use Rattle.refusals.specs.declared.Refusal.{Refusal}
 use Rattle.refusals.specs.declared.Asked.TheVariants.{Passed}
 use Rattle.words.specs.declared.Written.{Written}
 use Rattle.words.specs.declared.Written.TheVariants.{Length, Refused}
-use Rattle.words.proofs.Answering.{of_word_passes, answers-length, writes-front}
+use Rattle.words.proofs.Answering.{of_word_passes, answers_length, writes_front}
 use Rattle.words.proofs.Bytes.{length_bytes}
 use Rattle.lists.specs.Reducing.{AllLetters}
 use Rattle.lists.proofs.FirstOthers.{all_letters_slice, part_slice}
@@ -63,7 +63,7 @@ module _ (f : Word → Word) (k : ℕ) (list : List ℕ) (from end : ℕ) (out :
 
   told : r ≡ Length (record { 0 = length (f (word (slice from end list))) })
   unfolding w
-  told = answers-length f k w behind r after slice_writes passes
+  told = answers_length f k w behind r after slice_writes passes
 
   pub form_written : {l : Letters} → r ≡ Length l
       → (l.0 ≡ length (f (word (slice from end list)))) × (put_mid at (length out - at) out after ≡ paste out at (bytes (f (word (slice from end list)))) l.0)
@@ -72,7 +72,7 @@ module _ (f : Word → Word) (k : ℕ) (list : List ℕ) (from end : ℕ) (out :
       let form = f (word (slice from end list)) in
       let len : l.0 ≡ length form = length_of (sym e ∙ told) in (
         len,
-        ap (put_mid at (length out - at) out) (writes-front f k w behind r after slice_writes passes)
+        ap (put_mid at (length out - at) out) (writes_front f k w behind r after slice_writes passes)
             ∙ front_behind out (bytes form) at l.0 (omega arith) (len ∙ sym (length_bytes form)),
       )
 

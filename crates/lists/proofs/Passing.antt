@@ -15,7 +15,7 @@ use Rattle.refusals.proofs.Asking.{asks_yes, asks_passed, yes_first, first_no_he
 use Rattle.lists.specs.Questions.{question7, first_fall, last_end, question9, of_list}
 use Rattle.lists.specs.Reducing.{AllLetters, Checked}
 use Rattle.lists.proofs.FirstOthers.{all_letters_front, all_letters_behind}
-use Rattle.lists.proofs.Refusing.{ends-right, by_letters}
+use Rattle.lists.proofs.Refusing.{ends_right, by_letters}
 
 pub record ListPassed (bytes ends target : List ℕ) : Type 0 where
   pub few : length ends ≤ most_generators
@@ -56,7 +56,7 @@ module _ (bytes ends target : List ℕ) (passed : of_list bytes ends target ≡ 
   list_alone =
       let p = list_passed bytes ends target passed in
       let letters = subst AllLetters (sym (append-nil bytes)) (all_letters_front bytes target p.letters) in
-      by_letters bytes ends [] p.few p.short (omega arith) (ends-right ends (length bytes) p.none_falls p.last)
+      by_letters bytes ends [] p.few p.short (omega arith) (ends_right ends (length bytes) p.none_falls p.last)
       ∙ asks_yes (leb (length (bytes ++ [])) (first_other (bytes ++ []))) (NotALetter (first_other (bytes ++ []))) (le-leb _ _ letters)
 
   pub target_alone : of_letters target ≡ Passed

@@ -19,7 +19,7 @@ use Rattle.lists.specs.Questions.{question11}
 use Rattle.lists.specs.NormalList.{total, normal_bytes, normal_ends}
 use Rattle.lists.specs.Reducing.{Checked, ReducedFrom}
 use Rattle.lists.specs.Calls.{of_reduced_list, ReducesList}
-use Rattle.lists.proofs.Answering.{of_list_alone, by-generators, alone-checked, alone-short, asked-alone, written_front}
+use Rattle.lists.proofs.Answering.{of_list_alone, by_generators, alone_checked, alone_short, asked_alone, written_front}
 use Rattle.lists.proofs.Passing.{list_passed}
 use Rattle.lists.proofs.NormalList.{normal_bytes_length, normal_ends_length}
 use Rattle.lists.proofs.ShortForms.{total_short}
@@ -35,11 +35,11 @@ module _ (bytes ends before before_ends after after_ends : List ℕ) (r : Writte
   asked = of_reduced_list gens bytes ends (length before) (length before_ends)
 
   few : of_list_alone bytes ends ≡ Passed → length gens ≤ most_generators
-  few e = omega (arith, (list_passed bytes ends [] (alone-checked bytes ends e)).few, generators_length bytes 0 ends)
+  few e = omega (arith, (list_passed bytes ends [] (alone_checked bytes ends e)).few, generators_length bytes 0 ends)
 
   -- there is room for every list that passes
   questions : asked ≡ of_list_alone bytes ends
-  questions = asked-alone gens bytes ends before before_ends (λ e. (omega (arith, total_short gens (alone-short bytes ends e)), omega (arith, few e)))
+  questions = asked_alone gens bytes ends before before_ends (λ e. (omega (arith, total_short gens (alone_short bytes ends e)), omega (arith, few e)))
 
   pub list_refused : {refusal : Refusal} → r ≡ Written-as-Refused refusal → of_list_alone bytes ends ≡ Refused refusal
   list_refused e = sym questions ∙ refused_of_answer asked (total gens) (sym h.answer ∙ e)
@@ -60,7 +60,7 @@ module _ (bytes ends before before_ends after after_ends : List ℕ) (r : Writte
           letters_are = written_front (normal_bytes gens) before passed.0 h.slice l.0 (list_total ∙ sym (normal_bytes_length gens));
           ends_are = written_front (normal_ends 0 gens) before_ends passed.0 h.ends_slice (length ends) (sym (normal_ends_length 0 gens ∙ generators_length bytes 0 ends));
           few = few list_passes;
-          short = alone-short bytes ends list_passes;
+          short = alone_short bytes ends list_passes;
         }
 
 -- ---- a list that has passed questions 7 to 10: the only question left is whether a generator is too long
@@ -68,7 +68,7 @@ module _ (bytes ends before before_ends after after_ends : List ℕ) (r : Writte
 module _ (bytes ends before before_ends after after_ends : List ℕ) (r : Written) (h : ReducesList bytes ends before before_ends r after after_ends)
     (checked : Checked bytes ends) (room : length before ≡ most_of_list) (room_ends : length before_ends ≡ most_generators) where
   pub list_too_long : {refusal : Refusal} → r ≡ Written-as-Refused refusal → question11 (generators bytes ends) ≡ Refused refusal
-  list_too_long e = sym (by-generators bytes ends checked) ∙ list_refused bytes ends before before_ends after after_ends r h room room_ends e
+  list_too_long e = sym (by_generators bytes ends checked) ∙ list_refused bytes ends before before_ends after after_ends r h room room_ends e
 
   module _ {l : Letters} (e : r ≡ Length l) where
     reduced : ReducedFrom (generators bytes ends) (take l.0 after) (take (length ends) after_ends)

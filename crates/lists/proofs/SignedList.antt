@@ -20,7 +20,7 @@ use Rattle.lists.specs.Questions.{question11}
 use Rattle.lists.specs.NormalList.{total, normal_bytes, normal_ends}
 use Rattle.lists.specs.Reducing.{Checked}
 use Rattle.lists.specs.Calls.{of_reduced_list, lengths_or, ReducesSigned}
-use Rattle.lists.proofs.Answering.{by-generators, asked-alone, written_front}
+use Rattle.lists.proofs.Answering.{by_generators, asked_alone, written_front}
 use Rattle.lists.proofs.Passing.{list_passed}
 use Rattle.lists.proofs.NormalList.{normal_bytes_length, normal_ends_length}
 use Rattle.lists.proofs.ShortForms.{signed_short}
@@ -50,11 +50,11 @@ module _ (bytes ends before before_ends after after_ends : List ℕ) (r : Signed
   questions =
       let few = (list_passed bytes ends [] checked).few in
       let count = generators_length bytes 0 ends in
-      asked-alone (with_inverses gens) bytes ends before before_ends (λ e. (
-        omega (arith, signed_short gens (omega arith) (sym (by-generators bytes ends checked) ∙ e)),
+      asked_alone (with_inverses gens) bytes ends before before_ends (λ e. (
+        omega (arith, signed_short gens (omega arith) (sym (by_generators bytes ends checked) ∙ e)),
         omega (arith, doubled_length gens),
       ))
-      ∙ by-generators bytes ends checked
+      ∙ by_generators bytes ends checked
 
   pub signed_too_long : {refusal : Refusal} → r ≡ Signed-as-Refused refusal → question11 gens ≡ Refused refusal
   signed_too_long e = sym questions ∙ refused_of_lengths asked (total gens) (total (with_inverses gens)) (sym h.answer ∙ e)

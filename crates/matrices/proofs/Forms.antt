@@ -29,7 +29,7 @@ use Rattle.matrices.specs.Forming.{of_form}
 use Rattle.matrices.specs.Calls.{matrix_or}
 use Rattle.matrices.specs.declared.Matrix.{Matrix as Entries}
 use Rattle.matrices.specs.declared.Turned.TheVariants.{Into, Refused as Turned-as-Refused}
-use Rattle.matrices.proofs.Range.{sixteen, question16-by-5}
+use Rattle.matrices.proofs.Range.{sixteen, question16_by_5}
 
 -- one letter more
 pub product_more : (w : List ℕ) (i : ℕ) → i < length w →
@@ -52,7 +52,7 @@ module _ (w : Word) where
   -- e holds the matrix of w
   module _ (e : Entries) (l : length w ≤ most_of_form) (h : matrix e ≡ signed (matrix_of w)) where
     form_by_range : of_form w ≡ sixteen (question5 (matrix e))
-    form_by_range = form_short l ∙ question16-by-5 (signed (matrix_of w)) ∙ ap (λ (m : Matrix). sixteen (question5 m)) (sym h)
+    form_by_range = form_short l ∙ question16_by_5 (signed (matrix_of w)) ∙ ap (λ (m : Matrix). sixteen (question5 m)) (sym h)
 
     pub turns_form : question5 (matrix e) ≡ Passed → Into e ≡ matrix_or (of_form w) (signed (matrix_of w))
     turns_form q =

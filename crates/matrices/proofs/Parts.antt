@@ -15,7 +15,7 @@ use Rattle.words.specs.Word.{S, Word}
 use Rattle.words.specs.Bytes.{byte, bytes}
 use Rattle.words.proofs.Bytes.{length_bytes}
 use Rattle.unimodular.specs.Matrix.{Matrix, times, determinant, matrix_of_letter, NormalFormOf}
-use Rattle.unimodular.proofs.Descent.{size, part, before, ending, without-last-part, ending-nothing, determinant_before, size-before}
+use Rattle.unimodular.proofs.Descent.{size, part, before, ending, without_last_part, ending_nothing, determinant_before, size_before}
 use Rattle.matrices.specs.Spelling.{form_room, Spelled}
 
 -- ---- one letter, and one part
@@ -69,7 +69,7 @@ module _ {m left : Matrix} {form : List ℕ} {at : ℕ} (h : Spelling m left for
       drop at' form' ≡ bytes (part k) ++ drop at form → Spelling m left' form' at'
   spelling_more {k} {left'} form' at' e f g = record {
     one = ap determinant taken ∙ determinant_before (ending left) left ∙ h.one;
-    not_large = subst (λ (n : Matrix). size n ≤ 2 ^ 43) (sym taken) (le_trans (size-before left h.one) h.not_large);
+    not_large = subst (λ (n : Matrix). size n ≤ 2 ^ 43) (sym taken) (le_trans (size_before left h.one) h.not_large);
     so_far = λ w p. longer w (h.so_far w p);
   }
     where
@@ -79,7 +79,7 @@ module _ {m left : Matrix} {form : List ℕ} {at : ℕ} (h : Spelling m left for
       longer : (w : Word) → (v : Word) × NormalFormOf left v × (bytes w ≡ bytes v ++ drop at form) →
           (v : Word) × NormalFormOf left' v × (bytes w ≡ bytes v ++ drop at' form')
       longer w (v, q, s) =
-          let d = without-last-part left v q in (
+          let d = without_last_part left v q in (
             d.0,
             subst (λ (n : Matrix). NormalFormOf n d.0) (sym taken) d.2,
             s
@@ -99,7 +99,7 @@ module _ {m left : Matrix} {form : List ℕ} {at : ℕ} (h : Spelling m left for
   }
     where
       all : (w : Word) → (v : Word) × NormalFormOf left v × (bytes w ≡ bytes v ++ drop at form) → bytes w ≡ drop at form
-      all w (v, q, s) = s ∙ ap (λ (u : Word). bytes u ++ drop at form) (ending-nothing left v q e)
+      all w (v, q, s) = s ∙ ap (λ (u : Word). bytes u ++ drop at form) (ending_nothing left v q e)
 
   -- more letters stand behind than question 12 lets pass
   pub spelling_stops : at ≤ 1 → length form ≡ form_room → Spelled m form at

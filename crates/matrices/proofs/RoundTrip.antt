@@ -36,12 +36,12 @@ use Rattle.matrices.specs.Calls.{matrix_or, TurnsWord, TurnsMatrix}
 use Rattle.matrices.specs.declared.Matrix.{Matrix as Entries}
 use Rattle.matrices.specs.declared.Turned.{Turned}
 use Rattle.matrices.specs.declared.Turned.TheVariants.{Into}
-use Rattle.matrices.proofs.Range.{Small, small-of-passed, passed-of-small, sixteen, question16-by-5, passed-in-range, entries-passed}
-use Rattle.matrices.proofs.Signs.{sign-of-signed}
+use Rattle.matrices.proofs.Range.{Small, small_of_passed, passed_of_small, sixteen, question16_by_5, passed_in_range, entries_passed}
+use Rattle.matrices.proofs.Signs.{sign_of_signed}
 use Rattle.matrices.proofs.Forms.{form_short}
-use Rattle.matrices.proofs.Writing.{letters-and-room}
-use Rattle.matrices.proofs.Reduction.{letters-passed}
-use Rattle.matrices.proofs.TurnedMatrix.{turned-form, turned-short, turned-bytes}
+use Rattle.matrices.proofs.Writing.{letters_and_room}
+use Rattle.matrices.proofs.Reduction.{letters_passed}
+use Rattle.matrices.proofs.TurnedMatrix.{turned_form, turned_short, turned_bytes}
 
 -- ---- a word, its matrix, and back
 
@@ -57,7 +57,7 @@ range_of_16 m e = go (question5 m) refl
     go : (a : Asked) → question5 m ≡ a → question5 m ≡ Passed
     go Passed f = f
     go (Refused refusal) f =
-        let k : sixteen (Refused refusal) ≡ Passed = sym (ap sixteen f) ∙ sym (question16-by-5 m) ∙ e in
+        let k : sixteen (Refused refusal) ≡ Passed = sym (ap sixteen f) ∙ sym (question16_by_5 m) ∙ e in
         let z : ◌≡◌ {A = ℕ} 0 1 = cc in absurd (omega arith)
 
 module _ (w : List ℕ) (e : Entries) (h : TurnsWord w (Into e)) where
@@ -77,11 +77,11 @@ module _ (w : List ℕ) (e : Entries) (h : TurnsWord w (Into e)) where
       (first_no_head (question12 (length (nf (word w)))) (question16 (signed (matrix_of (word w))) ∷ []) last_two))
 
   same_element : UpToSign (matrix_of (word w)) (matrix e)
-  same_element = sign_trans (sign_sym (sign-of-signed (matrix_of (word w)))) (inl (sym turned.1))
+  same_element = sign_trans (sign_sym (sign_of_signed (matrix_of (word w)))) (inl (sym turned.1))
 
   -- its entries pass questions 5 and 6
   entries_pass : of_entries (matrix e) ≡ Passed
-  entries_pass = entries-passed (matrix e) in_range (sym (determinant_sign same_element) ∙ determinant_word (word w))
+  entries_pass = entries_passed (matrix e) in_range (sym (determinant_sign same_element) ∙ determinant_word (word w))
     where
       sixteenth : question16 (signed (matrix_of (word w))) ≡ Passed
       sixteenth =
@@ -102,7 +102,7 @@ module _ (w : List ℕ) (e : Entries) (h : TurnsWord w (Into e)) where
       form = normal_form_sign same_element (normal_form_of_word (word w))
 
       passes : of_normal_form (nf (word w)) (length before) ≡ Passed
-      passes = letters-and-room (length (nf (word w))) (length before) short room
+      passes = letters_and_room (length (nf (word w))) (length before) short room
 
 -- ---- a matrix, its normal form, and back
 
@@ -134,9 +134,9 @@ module _ (m : Matrix) (passes : of_entries m ≡ Passed) where
   -- the matrix of m's normal form is m up to sign, so question 16 is answered yes
   sixteen_passes : (w : Word) → NormalFormOf m w → question16 (signed (matrix_of w)) ≡ Passed
   sixteen_passes w p =
-      question16-by-5 (signed (matrix_of w))
-      ∙ ap sixteen (passed-of-small (signed (matrix_of w))
-      (small_sign (sign_trans (sign-of-signed (matrix_of w)) p.matrix) (small-of-passed m (passed-in-range m passes))))
+      question16_by_5 (signed (matrix_of w))
+      ∙ ap sixteen (passed_of_small (signed (matrix_of w))
+      (small_sign (sign_trans (sign_of_signed (matrix_of w)) p.matrix) (small_of_passed m (passed_in_range m passes))))
 
   module _ (w : Word) (p : NormalFormOf m w) (l : length w ≤ most_of_form) where
     same_word : word (bytes w) ≡ w
@@ -144,7 +144,7 @@ module _ (m : Matrix) (passes : of_entries m ≡ Passed) where
 
     turns_back : of_turned_word (bytes w) ≡ Passed
     turns_back =
-        letters-passed (bytes w) (of_bytes w l)
+        letters_passed (bytes w) (of_bytes w l)
         ∙ ap (λ (x : Word). of_form (nf x)) same_word
         ∙ ap of_form (nf_of_normal w p.normal)
         ∙ form_short w l ∙ sixteen_passes w p
@@ -154,17 +154,17 @@ module _ (m : Matrix) (passes : of_entries m ≡ Passed) where
       entries (signed (matrix_of w)),
       t ∙ ap (λ (a : Asked). matrix_or a (signed (matrix_of (word (bytes w))))) turns_back
           ∙ ap (λ (x : Word). Into (entries (signed (matrix_of x)))) same_word,
-      sign_trans (sign-of-signed (matrix_of w)) p.matrix,
+      sign_trans (sign_of_signed (matrix_of w)) p.matrix,
     )
 
   pub matrix_word_matrix : (before after : List ℕ) (n : Letters) → TurnsMatrix m before (Length n) after →
       (r : Turned) → TurnsWord (take n.0 after) r → (e : Entries) × (r ≡ Into e) × UpToSign (matrix e) m
   matrix_word_matrix before after n t r u =
-      back_again w p (turned-short m before after (Length n) t refl w p) r
-      (subst (λ (s : List ℕ). TurnsWord s r) (turned-bytes m before after (Length n) t refl w p) u)
+      back_again w p (turned_short m before after (Length n) t refl w p) r
+      (subst (λ (s : List ℕ). TurnsWord s r) (turned_bytes m before after (Length n) t refl w p) u)
     where
       found : (w : Word) × NormalFormOf m w
-      found = turned-form m before after (Length n) t refl
+      found = turned_form m before after (Length n) t refl
 
       w : Word
       w = found.0

@@ -12,7 +12,7 @@ use Rattle.refusals.specs.Telling.{pick}
 use Rattle.unimodular.specs.Matrix.{Matrix, negated, determinant, UpToSign, first_positive, signed}
 use Rattle.unimodular.proofs.Product.{negated_negated}
 use Rattle.unimodular.proofs.Rows.{negative, positive}
-use Rattle.unimodular.proofs.Determinant.{no-first-row}
+use Rattle.unimodular.proofs.Determinant.{no_first_row}
 
 -- ---- by the comparisons
 
@@ -62,7 +62,7 @@ signed_sign d (inl e) = ap signed e
 signed_sign {m} {n} d (inr e) = ap signed e ∙ go (first_positive n.a n.b) refl
   where
     other : first_positive (neg_ℤ n.a) (neg_ℤ n.b) ≡ not (first_positive n.a n.b)
-    other = other_sign n.a n.b (no-first-row n d)
+    other = other_sign n.a n.b (no_first_row n d)
 
     go : (t : Bool) → first_positive n.a n.b ≡ t → signed (negated n) ≡ signed n
     go true e = signed_negated (negated n) (other ∙ ap not e) ∙ negated_negated n ∙ sym (signed_as_is n e)

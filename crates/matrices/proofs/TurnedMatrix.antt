@@ -28,8 +28,8 @@ use Rattle.unimodular.specs.Matrix.{Matrix, determinant, NormalFormOf}
 use Rattle.unimodular.proofs.Descent.{normal_form_exists}
 use Rattle.matrices.specs.Questions.{in_range, is_one, of_entries, of_normal_form}
 use Rattle.matrices.specs.Calls.{TurnsMatrix}
-use Rattle.matrices.proofs.Range.{by_answers, passed-determinant}
-use Rattle.matrices.proofs.Writing.{letters-too-many, letters-and-room}
+use Rattle.matrices.proofs.Range.{by_answers, passed_determinant}
+use Rattle.matrices.proofs.Writing.{letters_too_many, letters_and_room}
 
 -- questions 5 and 6 refuse with other numbers than question 12
 entries_not_too_long : (m : Matrix) → of_entries m ≡ Refused NormalFormTooLong → ⊥
@@ -51,9 +51,9 @@ module _ (m : Matrix) (before after : List ℕ) (r : Written) (h : TurnsMatrix m
       let asked : of_normal_form w (length before) ≡ Refused refusal =
       refused_of_answer (of_normal_form w (length before)) (length w) (sym (h.answer passes w p) ∙ e) in
       elim (dec_le (length w) most_of_form) [
-        | yes k ↦ absurd (passed_not_refused (sym asked ∙ letters-and-room (length w) (length before) k room))
+        | yes k ↦ absurd (passed_not_refused (sym asked ∙ letters_and_room (length w) (length before) k room))
         | no k ↦
-            let long = letters-too-many (length w) (length before) (lt_of_not-le k) in
+            let long = letters_too_many (length w) (length before) (lt_of_not-le k) in
             (lt_of_not-le k, let same : Refused refusal ≡ Refused NormalFormTooLong = sym asked ∙ long in cc)
       ]
 
@@ -80,7 +80,7 @@ module _ (m : Matrix) (before after : List ℕ) (r : Written) (h : TurnsMatrix m
 
     -- .. and then there is a normal form
     pub turned_form : (w : Word) × NormalFormOf m w
-    turned_form = normal_form_exists m (passed-determinant m turned_entries)
+    turned_form = normal_form_exists m (passed_determinant m turned_entries)
 
     module _ (w : Word) (p : NormalFormOf m w) where
       passed : (of_normal_form w (length before) ≡ Passed) × (l.0 ≡ length w)

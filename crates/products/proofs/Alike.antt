@@ -7,7 +7,7 @@ use native.Mathlib.Omega.{arith}
 use lib.ListN.{length}
 use Rattle.words.specs.Word.{Word}
 use Rattle.products.specs.Product.{Family, Each, Reaches, Counted, Rival, NoneRight, MemberRight, YesRight, NoRight, Before}
-use Rattle.products.proofs.Unbounded.{yes-not-no}
+use Rattle.products.proofs.Unbounded.{yes_not_no}
 
 -- `there` and `back` take a series of the one to a series of the other: as long, a product of the other's target where it is one of its own, and no other
 -- series before what it came from than came from one before it.
@@ -66,4 +66,4 @@ module _ {F G : Family} {t u : Word} {there back : List ℕ → List ℕ} (alike
   yes_alike (r, s, c, e) = (there r, alike.series_there r s, counted_there r c, alike.reaches_there r s e)
 
   pub no_alike : NoRight F t → NoRight G u
-  no_alike right r s c e = yes-not-no F t (back r, alike.series_back r s, counted_back r c, alike.reaches_back r s e) right
+  no_alike right r s c e = yes_not_no F t (back r, alike.series_back r s, counted_back r c, alike.reaches_back r s e) right

@@ -15,7 +15,7 @@ use Rattle.refusals.specs.Telling.{pick}
 use Rattle.words.specs.Word.{Word, inverse}
 use Rattle.products.specs.Product.{generator, Factor, Each, spelled, letters, plain, signed, inverse_mark, inverses, with_inverses, NoneRight, MemberRight, Before, smaller, further}
 use Rattle.products.specs.Doubled.{signed_number}
-use Rattle.products.proofs.Series.{each_on, each_map, spelled-on, spelled-map}
+use Rattle.products.proofs.Series.{each_on, each_map, spelled_on, spelled_map}
 use Rattle.products.proofs.Order.{before_nothing}
 use Rattle.products.proofs.Alike.{Alike, none_alike, member_alike}
 
@@ -124,11 +124,11 @@ module _ (gens : List Word) (few : length gens ≤ inverse_mark) where
 
       letters_there : (r : List ℕ) → Each (Factor (with_inverses gens)) r → letters (with_inverses gens) r ≡ spelled (signed gens).word_of (map number r)
       letters_there r h =
-          rw (spelled-map (signed gens).word_of number r) (spelled-on (Factor (with_inverses gens)) (λ i f. twin_word (twin_of_place i f)) r h)
+          rw (spelled_map (signed gens).word_of number r) (spelled_on (Factor (with_inverses gens)) (λ i f. twin_word (twin_of_place i f)) r h)
 
       letters_back : (s : List ℕ) → Each (signed gens).Number s → letters (with_inverses gens) (map placed s) ≡ spelled (signed gens).word_of s
       letters_back s h =
-          rw (spelled-map (generator (with_inverses gens)) placed s) (spelled-on (signed gens).Number (λ k f. twin_word (twin_of_number gens k f)) s h)
+          rw (spelled_map (generator (with_inverses gens)) placed s) (spelled_on (signed gens).Number (λ k f. twin_word (twin_of_number gens k f)) s h)
 
   pub signed_none_of : (target : Word) (n : ℕ) → NoneRight (plain (with_inverses gens)) target n → NoneRight (signed gens) target n
   signed_none_of target n right = none_alike (signed_alike target) n right

@@ -14,9 +14,9 @@ use Rattle.words.specs.Word.{R, S, Word}
 use Rattle.words.proofs.Reduced.{reduced_of_normal}
 use Rattle.products.specs.Product.{generator, Factor, measure}
 use Rattle.products.specs.State.{AllNormal, LeastBy}
-use Rattle.products.proofs.States.{State, nothing, suffix, Leads, A, B, C, D, E, state-tail, step_leads, leads_append, leads_behind}
+use Rattle.products.proofs.States.{State, nothing, suffix, Leads, A, B, C, D, E, state_tail, step_leads, leads_append, leads_behind}
 use Rattle.products.proofs.OneStep.{AllReduced}
-use Rattle.products.proofs.Tables.{Closed, Sound, sound-positive, table-least}
+use Rattle.products.proofs.Tables.{Closed, Sound, sound_positive, table_least}
 
 -- a list whose generators are normal, by clauses
 pub all_reduced : (gens : List Word) → AllNormal gens → AllReduced gens
@@ -44,7 +44,7 @@ module _ (gens : List Word)
       record {
         bounded = bounded u v s t;
         led = sound.led u v s t;
-        least = table-least gens weight weight_append n T all closed u v s t;
+        least = table_least gens weight weight_append n T all closed u v s t;
       }
 
   module _ (exact : ExactBy gens weight n T) where
@@ -55,7 +55,7 @@ module _ (gens : List Word)
     pub exact_positive : ((j : ℕ) → Factor gens j → 1 ≤ weight (j ∷ [])) → (u v : Word) → State gens u → State gens v → 1 ≤ T u v
     exact_positive weight_factor u v s t =
         elim (dec_le (T u v) n) [
-          | yes h ↦ sound-positive gens weight weight_append weight_factor n T exact_sound u v s t h
+          | yes h ↦ sound_positive gens weight weight_append weight_factor n T exact_sound u v s t h
           | no h ↦ omega arith
         ]
 
@@ -79,13 +79,13 @@ module _ (gens : List Word)
     exact_closed =
         record {
           A = λ j f h. (exact [] (generator gens j) nothing (suffix j [] f refl)).least (j ∷ []) (λ e. nil≢cons (sym e)) (step_leads gens (A j f)) h;
-          B = λ x q s t h. from_one x (R ∷ q) (R ∷ x) q (state-tail gens s) t s (state-tail gens t) (λ r l. step_leads gens (B t l)) h;
-          C = λ x q s t h. from_one x (S ∷ q) (S ∷ S ∷ x) q (state-tail gens (state-tail gens s)) t s (state-tail gens t) (λ r l. step_leads gens (C t l)) h;
+          B = λ x q s t h. from_one x (R ∷ q) (R ∷ x) q (state_tail gens s) t s (state_tail gens t) (λ r l. step_leads gens (B t l)) h;
+          C = λ x q s t h. from_one x (S ∷ q) (S ∷ S ∷ x) q (state_tail gens (state_tail gens s)) t s (state_tail gens t) (λ r l. step_leads gens (C t l)) h;
           D = λ x q no_s s t h.
-              from_one x (S ∷ S ∷ q) (S ∷ x) q (state-tail gens s) t s (state-tail gens (state-tail gens t)) (λ r l. step_leads gens (D no_s t l)) h;
+              from_one x (S ∷ S ∷ q) (S ∷ x) q (state_tail gens s) t s (state_tail gens (state_tail gens t)) (λ r l. step_leads gens (D no_s t l)) h;
           E = λ x w q no_s s t t' h.
-              from_two x (S ∷ w) w (S ∷ q) (S ∷ x) q (state-tail gens s) t (state-tail gens t) t' s (state-tail gens t')
+              from_two x (S ∷ w) w (S ∷ q) (S ∷ x) q (state_tail gens s) t (state_tail gens t) t' s (state_tail gens t')
               (λ a b l m. step_leads gens (E no_s t t' l m)) h;
           F = λ u v q s t t' h. from_two u v v q u q s t t t' s t' (λ a b l m. leads_append gens l m) h;
-          G = λ a x y s t h. from_one x y (a ∷ x) (a ∷ y) (state-tail gens s) (state-tail gens t) s t (λ r l. leads_behind gens (a ∷ []) l) h;
+          G = λ a x y s t h. from_one x y (a ∷ x) (a ∷ y) (state_tail gens s) (state_tail gens t) s t (λ r l. leads_behind gens (a ∷ []) l) h;
         }

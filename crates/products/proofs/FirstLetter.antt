@@ -8,7 +8,7 @@ use Rattle.words.specs.Word.{Letter, Word, Equal, then}
 use Rattle.words.proofs.Reduced.{Reduced, reduced_tail}
 use Rattle.words.proofs.NormalForm.{equal_path, nf_of_equal, nf_of_reduced}
 use Rattle.products.proofs.Null.{Null, null_equal, null_front, null_before}
-use Rattle.products.proofs.States.{Leads, Ends, state-tail, ends_state, leads_behind}
+use Rattle.products.proofs.States.{Leads, Ends, state_tail, ends_state, leads_behind}
 use Rattle.products.proofs.Runs.{Run, stop, more, run_cut, run_all, run_series, run_letters, ends_of_run}
 use Rattle.products.proofs.OneStep.{AllReduced, state_reduced}
 
@@ -33,7 +33,7 @@ module _ (gens : List Word) where
     first_of_runs {a} {u} {z} {x} h k (stop e) n t f = rw (null_front [] u x (a ∷ z) h n e) (kept (leads_of_run t f))
     first_of_runs {a} {u} {z} {y} {w} {p} h k (more j g i) n (stop e) f =
         let d : Ends gens u p (a ∷ z) = ends_of_run gens (more j g i) (null_equal n) in
-        let same = equal_reduced (state_reduced gens all (state-tail gens (ends_state gens d))) (reduced_tail a y k) (then (equal_path (e ∙ append-nil w)) f) in
+        let same = equal_reduced (state_reduced gens all (state_tail gens (ends_state gens d))) (reduced_tail a y k) (then (equal_path (e ∙ append-nil w)) f) in
         rw (append-nil p, ← same) (ended d)
     first_of_runs {a} h k (more j g i) n (more j' g' i') f =
         passed (ends_of_run gens (more j g i) (null_equal n)) (λ e. nil≢cons (sym e)) (leads_behind gens (a ∷ []) (leads_of_run (more j' g' i') f))

@@ -19,8 +19,8 @@ use Rattle.products.specs.Product.{generator, Factor, smaller}
 use Rattle.products.proofs.States.{State, nothing, suffix, Leads, A, step_leads}
 use Rattle.products.proofs.OneStep.{AllReduced, state_reduced}
 use Rattle.products.proofs.FirstLetter.{equal_reduced}
-use Rattle.products.proofs.Tables.{weight-positive}
-use Rattle.products.proofs.Exact.{ExactBy, from_one, from-two, exact-closed}
+use Rattle.products.proofs.Tables.{weight_positive}
+use Rattle.products.proofs.Exact.{ExactBy, from_one, from_two, exact_closed}
 use Rattle.products.proofs.Order.{NoLater, no_later_trans, no_later_append, no_later_cons, no_later_antisym}
 use Rattle.products.proofs.Halves.{Shift, Unshifted, Halves, Halved, parts, shift_leads, shift_states, halves_leads, halves_states, halved}
 
@@ -113,7 +113,7 @@ module _ (gens : List Word)
         let at_j : State gens (generator gens j) = suffix j [] f refl in
         let sum = weight_append (j ∷ []) (k ∷ r) in
         let i = (exact (generator gens j) q at_j state).least (k ∷ r) (λ e. nil≢cons (sym e)) (leads_behind_factor l) (omega arith) in
-        let closed = exact-closed gens weight weight_append n T exact in
+        let closed = exact_closed gens weight weight_append n T exact in
         let a = closed.A j f (omega arith) in
         part f (omega (arith, closed.F [] (generator gens j) q nothing at_j state (omega arith)))
 
@@ -171,7 +171,7 @@ module _ (gens : List Word)
         where
           behind : (s : List ℕ) → Leads gens (generator gens j) s q → weight s ≡ weight r → NoLater r s
           behind [] l e =
-              let one = weight-positive gens weight weight_append weight_factor r h.leads.series h.some in
+              let one = weight_positive gens weight weight_append weight_factor r h.leads.series h.some in
               absurd (omega (arith, weight_append [] []))
           behind (i ∷ s) l e = h.first (i ∷ s) (λ e. nil≢cons (sym e)) l e
 
@@ -187,7 +187,7 @@ module _ (gens : List Word)
         let i = (exact x p sx sp).least a ne l (omega arith) in
         let j = (exact y o sy so).least b ne' m (omega arith) in
         let on : (a b : List ℕ) → Leads gens x a p → Leads gens y b o → Leads gens u (a ++ b) q = λ a b l m. halves_leads gens h l m in
-        let k = from-two gens weight weight_append n T exact x p y o u q sx sp sy so su sq on (omega arith) in
+        let k = from_two gens weight weight_append n T exact x p y o u q sx sp sy so su sq on (omega arith) in
         (omega arith, omega arith, omega arith)
 
     module _ (some : u ≢ []) (un : Unshifted gens u q) where

@@ -12,10 +12,10 @@ use Rattle.words.specs.Word.{Letter, R, S, Word, Equal, rr, sss, back, then}
 use Rattle.words.proofs.NormalForm.{equal_path, equal_behind, equal_before}
 use Rattle.products.specs.Product.{letters}
 use Rattle.products.proofs.Null.{equal_uncons}
-use Rattle.products.proofs.States.{NotS, State, Leads, Ends, Step, A, B, C, D, E, F, state-tail, step_leads, ends_leads, ends_not_empty}
+use Rattle.products.proofs.States.{NotS, State, Leads, Ends, Step, A, B, C, D, E, F, state_tail, step_leads, ends_leads, ends_not_empty}
 use Rattle.products.proofs.States.{leads_append, leads_behind, leads_cancel, leads_ends_nothing}
 use Rattle.products.proofs.OneStep.{AllReduced, state_reduced}
-use Rattle.products.proofs.Induction.{Known, ends-induction}
+use Rattle.products.proofs.Induction.{Known, ends_induction}
 use Rattle.products.proofs.FirstLetter.{FirstLetter, kept, ended, passed, first_letter}
 
 module _ (gens : List Word) where
@@ -38,7 +38,7 @@ module _ (gens : List Word) where
   pub unshifted_ss : {x q : Word} → ((y : Word) → q ≢ S ∷ y) → (State gens (S ∷ q) → ⊥) → Unshifted (S ∷ S ∷ x) q
   unshifted_ss other none _ _ (same _ {y = y}) = other y refl
   unshifted_ss other none _ _ (over_ss_lem s) = none s
-  unshifted_ss other none _ _ (over_s s) = none (state-tail gens s)
+  unshifted_ss other none _ _ (over_s s) = none (state_tail gens s)
 
   pub unshifted_s : {x q : Word} → NotS x → ((y : Word) → q ≢ S ∷ y) → (State gens (S ∷ S ∷ q) → ⊥) → Unshifted (S ∷ x) q
   unshifted_s no_s other none _ _ (same _ {y = y}) = other y refl
@@ -65,10 +65,10 @@ module _ (gens : List Word) where
       ((λ l. leads_carry (S ∷ []) (S ∷ S ∷ []) (sss [] []) l), (λ l. leads_cancel gens (S ∷ []) (S ∷ S ∷ []) (sss [] []) l))
 
   pub shift_states : {u q x p : Word} → Shift u q x p → State gens u → State gens q → State gens x × State gens p
-  shift_states (same a) s t = (state-tail gens s, state-tail gens t)
-  shift_states (over_r p) s t = (state-tail gens s, p)
-  shift_states (over_ss_lem p) s t = (state-tail gens (state-tail gens s), p)
-  shift_states (over_s p) s t = (state-tail gens s, p)
+  shift_states (same a) s t = (state_tail gens s, state_tail gens t)
+  shift_states (over_r p) s t = (state_tail gens s, p)
+  shift_states (over_ss_lem p) s t = (state_tail gens (state_tail gens s), p)
+  shift_states (over_s p) s t = (state_tail gens s, p)
 
   -- The two halves of a pair u, q: through a state v that u's first letter can stand before, or, where u begins with a single S, its three
   -- S's from three places.
@@ -82,8 +82,8 @@ module _ (gens : List Word) where
 
   pub halves_states : {u q x p y o : Word} → Halves u q x p y o → State gens u → State gens q
       → State gens x × State gens p × State gens y × State gens o
-  halves_states (through v) s t = (s, state-tail gens v, state-tail gens v, t)
-  halves_states (across no_s w q) s t = (state-tail gens s, w, state-tail gens w, q)
+  halves_states (through v) s t = (s, state_tail gens v, state_tail gens v, t)
+  halves_states (across no_s w q) s t = (state_tail gens s, w, state_tail gens w, q)
 
   -- the series goes over two halves of the pair
   pub data Halved : Word → List ℕ → Word → Type 0 where
@@ -112,14 +112,14 @@ module _ (gens : List Word) where
     begun_step u r q (A j f) = factor
     begun_step u r q (B s k) = shifted s (over_r s)
     begun_step u r q (C s k) = shifted s (over_ss_lem s)
-    begun_step u r q (D no_s s k) = shifted (state-tail gens s) (over_s s)
+    begun_step u r q (D no_s s k) = shifted (state_tail gens s) (over_s s)
     begun_step u r q (E no_s s t k l) =
         halfway (parts (across no_s s t) (ends_not_empty gens k.0) (ends_not_empty gens l.0) (ends_leads gens k.0) (ends_leads gens l.0))
     begun_step u r q (F s t k l) =
         begun_on k.1 (ends_not_empty gens k.0) (ends_leads gens k.0) (ends_not_empty gens l.0) (ends_leads gens l.0)
 
     ends_begun : {u q : Word} {r : List ℕ} → State gens u → Ends gens u r q → Begun u r q
-    ends_begun s e = ends-induction gens all Begun begun_step (state_reduced gens all s) e
+    ends_begun s e = ends_induction gens all Begun begun_step (state_reduced gens all s) e
 
     first_begun : {u y : Word} {a : Letter} {r : List ℕ} → State gens u → Unshifted u (a ∷ y) → FirstLetter gens u r a y → Begun u r (a ∷ y)
     first_begun {y = y} s un (kept {a} {z} l) = absurd (un z y (same a))

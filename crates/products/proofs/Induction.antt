@@ -10,8 +10,8 @@ use native.Mathlib.Omega.{arith}
 use lib.ListN.{length, length-append}
 use Rattle.words.specs.Word.{R, S, Word}
 use Rattle.words.proofs.Reduced.{Reduced, reduced_tail}
-use Rattle.products.proofs.States.{Ends, Step, A, B, C, D, E, F, state-tail, ends_not_empty}
-use Rattle.products.proofs.OneStep.{AllReduced, state_reduced, one-step}
+use Rattle.products.proofs.States.{Ends, Step, A, B, C, D, E, F, state_tail, ends_not_empty}
+use Rattle.products.proofs.OneStep.{AllReduced, state_reduced, one_step}
 
 length_not_empty : (r : List ℕ) → r ≢ [] → 1 ≤ length r
 length_not_empty [] h = absurd (h refl)
@@ -58,7 +58,7 @@ module _ (gens : List Word) (all : AllReduced gens) (P : Word → List ℕ → W
   known_step h shorter deeper (D {x} {q} n s e) = D n s (e, deeper x (omega arith) (S ∷ S ∷ q) (reduced_tail S x h) e)
   known_step h shorter deeper (E {x} {w} {q} {a} {b} n s t e f) =
       let less = shorter_parts a b (ends_not_empty gens e) (ends_not_empty gens f) in
-      E n s t (e, shorter a x less.0 (S ∷ w) (reduced_tail S x h) e) (f, shorter b w less.1 (S ∷ q) (state_reduced gens all (state-tail gens s)) f)
+      E n s t (e, shorter a x less.0 (S ∷ w) (reduced_tail S x h) e) (f, shorter b w less.1 (S ∷ q) (state_reduced gens all (state_tail gens s)) f)
   known_step h shorter deeper (F {u} {v} {q} {a} {b} s t e f) =
       let less = shorter_parts a b (ends_not_empty gens e) (ends_not_empty gens f) in
       F s t (e, shorter a u less.0 v h e) (f, shorter b v less.1 q (state_reduced gens all s) f)
@@ -67,4 +67,4 @@ module _ (gens : List Word) (all : AllReduced gens) (P : Word → List ℕ → W
       → Reduced u → Ends gens u r q → P u r q
   unfolding Shown
   ends_induction {u} {q} {r} step h e =
-      lengths_induction Shown (λ r u shorter deeper q h e. step u r q (known_step h shorter deeper (one-step gens all u h e))) r u q h e
+      lengths_induction Shown (λ r u shorter deeper q h e. step u r q (known_step h shorter deeper (one_step gens all u h e))) r u q h e

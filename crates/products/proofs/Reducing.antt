@@ -10,7 +10,7 @@ use Rattle.words.specs.Word.{Word, Equal, none, back, then, nf}
 use Rattle.words.proofs.NormalForm.{equal_path, equal_append, equal_nf, nf_reduced}
 use Rattle.products.specs.Product.{generator, Factor, plain, Series, letters, Reaches, NoneRight, MemberRight, YesRight, NoRight}
 use Rattle.products.proofs.Series.{each_on}
-use Rattle.products.proofs.Alike.{Alike, none_alike, member_alike, yes-alike, no-alike}
+use Rattle.products.proofs.Alike.{Alike, none_alike, member_alike, yes_alike, no_alike}
 use Rattle.products.proofs.OneStep.{AllReduced}
 
 nf_nothing : nf [] ≡ []
@@ -76,7 +76,7 @@ module _ (gens : List Word) where
   member_reduced target n factors count = (member_alike (given_alike target) n factors count, member_alike (reduced_alike target) n factors count)
 
   pub yes_reduced : (target : Word) → YesRight (plain (map nf gens)) (nf target) ↔ YesRight (plain gens) target
-  yes_reduced target = (yes-alike (given_alike target), yes-alike (reduced_alike target))
+  yes_reduced target = (yes_alike (given_alike target), yes_alike (reduced_alike target))
 
   pub no_reduced : (target : Word) → NoRight (plain (map nf gens)) (nf target) ↔ NoRight (plain gens) target
-  no_reduced target = (no-alike (given_alike target), no-alike (reduced_alike target))
+  no_reduced target = (no_alike (given_alike target), no_alike (reduced_alike target))

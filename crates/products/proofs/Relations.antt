@@ -14,7 +14,7 @@ use Rattle.words.specs.Word.{Word, Equal}
 use Rattle.words.proofs.Inverse.{word_inverse}
 use Rattle.products.specs.Product.{generator, Factor, Family, plain, signed, inverse_mark, Reaches, Rival, NoneRight, MemberRight}
 use Rattle.products.proofs.Rivals.{rival_of}
-use Rattle.products.proofs.Doubled.{number-given, number-inverted, word-given, word-inverted}
+use Rattle.products.proofs.Doubled.{number_given, number_inverted, word_given, word_inverted}
 
 -- A relation of at most n factors.
 abbrev pub Relation : Family → ℕ → List ℕ → Type 0
@@ -43,6 +43,6 @@ module _ (gens : List Word) (i : ℕ) (inside : Factor gens i) where
 
   pub signed_relation : length gens ≤ inverse_mark → (n : ℕ) → 2 ≤ n → Relation (signed gens) n (i ∷ (inverse_mark + i) ∷ [])
   signed_relation few n h = (
-    rival_of (number-given gens few i inside, (number-inverted gens few i inside, tt)) (omega arith) h,
-    rw (word-given gens few i inside, word-inverted gens few i, append-nil) (word_inverse (generator gens i)),
+    rival_of (number_given gens few i inside, (number_inverted gens few i inside, tt)) (omega arith) h,
+    rw (word_given gens few i inside, word_inverted gens few i, append-nil) (word_inverse (generator gens i)),
   )

@@ -18,13 +18,13 @@ use Rattle.words.specs.Word.{Letter, R, Word, Equal, then}
 use Rattle.words.proofs.Reduced.{Reduced, reduced_tail}
 use Rattle.words.proofs.NormalForm.{equal_path}
 use Rattle.products.specs.Product.{Series, letters}
-use Rattle.products.proofs.States.{State, nothing, suffix, Leads, A, series-append, state-tail, step_leads}
+use Rattle.products.proofs.States.{State, nothing, suffix, Leads, A, series_append, state_tail, step_leads}
 use Rattle.products.proofs.States.{ends_state, ends_not_empty, ends_leads, leads_append, leads_behind}
 use Rattle.products.proofs.OneStep.{AllReduced, state_reduced}
 use Rattle.products.proofs.FirstLetter.{FirstLetter, kept, ended, passed, first_letter, equal_reduced}
 use Rattle.products.proofs.Halves.{same, shift_leads}
 use Rattle.products.proofs.Exact.{ExactBy}
-use Rattle.products.proofs.Rows.{FromRow, RowsClosed, RowsAttained, read-sound, chain-sound}
+use Rattle.products.proofs.Rows.{FromRow, RowsClosed, RowsAttained, read_sound, chain_sound}
 
 -- a is letter i of x
 abbrev pub LetterAt : Word → ℕ → Letter → Type 0
@@ -47,13 +47,13 @@ module _ (gens : List Word) (x : Word) where
   pub reads_series : {i : ℕ} {q : Word} {r : List ℕ} → Reads i q r → Series gens r
   reads_series (start ne l) = l.series
   reads_series (read a at s d) = reads_series d
-  reads_series (chain {r} {s} a at t d ne l) = series-append gens r s (reads_series d) l.series
+  reads_series (chain {r} {s} a at t d ne l) = series_append gens r s (reads_series d) l.series
 
   pub reads_made : {i : ℕ} {q : Word} {r : List ℕ} → Reads i q r → Equal (letters gens r) (take i x ++ q)
   reads_made (start ne l) = l.equal
-  reads_made (read {i} {q} {r} a at s d) = read-sound gens x i a q r at.0 at.1 (reads_made d)
+  reads_made (read {i} {q} {r} a at s d) = read_sound gens x i a q r at.0 at.1 (reads_made d)
   reads_made (chain {i} {v} {q} {r} {s} a at t d ne l) =
-      chain-sound gens x (suc i) v q r s (read-sound gens x i a v r at.0 at.1 (reads_made d)) l
+      chain_sound gens x (suc i) v q r s (read_sound gens x i a v r at.0 at.1 (reads_made d)) l
 
   pub reads_append : {i : ℕ} {q p : Word} {r s : List ℕ} → Reads i q r → s ≢ [] → Leads gens q s p → Reads i p (r ++ s)
   reads_append {r} (start ne l) some m = start (append-ne-nil_of_right_ne-nil r some) (leads_append gens l m)
@@ -95,16 +95,16 @@ module _ (gens : List Word) (x : Word) where
         next : {z : Word} {s : List ℕ}
             → ((z : Word) (p s : List ℕ) → State gens z → Reads (suc i) z p → Leads gens z s y → Reads (length x) [] (p ++ s))
             → FirstLetter gens z s a y → State gens z → Reads i z p → Reads (length x) [] (p ++ s)
-        next {s = s} on (kept {z} l) t d = on z p s (state-tail gens t) (read a at t d) l
+        next {s = s} on (kept {z} l) t d = on z p s (state_tail gens t) (read a at t d) l
         next {s = s} on (ended f) t d =
             let st = ends_state gens f in
             let stay : Leads gens y [] y = record { series = tt; equal = equal_path (append-nil y) } in
             let d' = reads_append d (ends_not_empty gens f) (ends_leads gens f) in
-            rw (append-nil (p ++ s)) at (on y (p ++ s) [] (state-tail gens st) (read a at st d') stay)
+            rw (append-nil (p ++ s)) at (on y (p ++ s) [] (state_tail gens st) (read a at st d') stay)
         next on (passed {z} {p = p₁} {r} f ne l) t d =
             let st = ends_state gens f in
             let d' = reads_append d (ends_not_empty gens f) (ends_leads gens f) in
-            rw (append_assoc p p₁ r) at (on z (p ++ p₁) r (state-tail gens st) (read a at st d') ((shift_leads gens (same a) r).0 l))
+            rw (append_assoc p p₁ r) at (on z (p ++ p₁) r (state_tail gens st) (read a at st d') ((shift_leads gens (same a) r).0 l))
 
     pub reads_complete : Reduced x → (r : List ℕ) → r ≢ [] → Series gens r → Equal (letters gens r) x → Reads (length x) [] r
     reads_complete h [] ne s e = absurd (ne refl)
@@ -125,8 +125,8 @@ module _ (gens : List Word)
       let inside = at.0 in
       let k = row_least rows t' d (omega arith) in
       let k' = rows.read i a v at.0 at.1 t' (omega arith) in
-      let m = (exact v q (state-tail gens t') t).least s ne l (omega arith) in
-      omega (arith, rows.F (suc i) v q (omega arith) (omega arith) (state-tail gens t') t (omega arith))
+      let m = (exact v q (state_tail gens t') t).least s ne l (omega arith) in
+      omega (arith, rows.F (suc i) v q (omega arith) (omega arith) (state_tail gens t') t (omega arith))
 
   -- an entry up to n is the weight of a series of its class
   pub row_reached : RowsAttained gens n T x Row → (i : ℕ) → i ≤ length x → (q : Word) → State gens q → Row i q ≤ n
@@ -145,7 +145,7 @@ module _ (gens : List Word)
       next before (inl (s, e)) = let (r, d, w) = before (a ∷ q) s (omega arith) in (r, read a (h, refl) s d, omega arith)
       next before (inr (v, s, e)) =
           let (r, d, w) = before (a ∷ v) s (omega arith) in
-          let (r', ne, l, w') = (exact v q (state-tail gens s) t).led (omega arith) in
+          let (r', ne, l, w') = (exact v q (state_tail gens s) t).led (omega arith) in
           let sum = weight_append r r' in
           (r ++ r', chain a (h, refl) s d ne l, omega arith)
 

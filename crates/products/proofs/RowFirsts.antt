@@ -15,13 +15,13 @@ use lib.ListN.{length}
 use Rattle.words.specs.Word.{Letter, Word, Equal}
 use Rattle.words.proofs.Reduced.{Reduced}
 use Rattle.products.specs.Product.{Series, letters}
-use Rattle.products.proofs.States.{State, Leads, state-tail}
+use Rattle.products.proofs.States.{State, Leads, state_tail}
 use Rattle.products.proofs.OneStep.{AllReduced}
 use Rattle.products.proofs.Exact.{ExactBy}
 use Rattle.products.proofs.Order.{NoLater, no_later_trans, no_later_append, no_later_antisym}
 use Rattle.products.proofs.Firsts.{First}
 use Rattle.products.proofs.Rows.{FromRow, RowsClosed, RowsAttained}
-use Rattle.products.proofs.RowClasses.{LetterAt, Reads, start, read, chain, reads_letter, reads_complete, row-least, row-reached}
+use Rattle.products.proofs.RowClasses.{LetterAt, Reads, start, read, chain, reads_letter, reads_complete, row_least, row_reached}
 
 -- the entries over v add up to that of row i + 1 at q, where a is letter i
 pub record RowTight (gens : List Word) (T : Word → Word → ℕ) (Row : ℕ → Word → ℕ) (i : ℕ) (a : Letter) (q v : Word) : Type 0 where
@@ -68,13 +68,13 @@ module _ (gens : List Word)
 
   -- what a series of the class weighs, where the class is row i's
   low : (i : ℕ) (q : Word) (r : List ℕ) → State gens q → Reads gens x i q r → weight r ≤ n → Row i q ≤ weight r
-  low i q r t d h = row-least gens weight weight_append n T x Row exact closed t d h
+  low i q r t d h = row_least gens weight weight_append n T x Row exact closed t d h
 
   module _ (i : ℕ) (a : Letter) (q : Word) (at : LetterAt x i a) (t : State gens q) (within : Row (suc i) q ≤ n) where
     pub row_entry_read : State gens (a ∷ q) → Row (suc i) q ≡ Row i (a ∷ q)
     row_entry_read s =
         let inside = at.0 in
-        let (r, d, w) = row-reached gens weight weight_append n T x Row exact attained (suc i) (omega arith) q t within in
+        let (r, d, w) = row_reached gens weight weight_append n T x Row exact attained (suc i) (omega arith) q t within in
         let k = low i (a ∷ q) r s ((reads_letter gens x i a q r at s).0 d) (omega arith) in
         omega (arith, closed.read i a q at.0 at.1 s (omega arith))
 
@@ -93,9 +93,9 @@ module _ (gens : List Word)
         let inside = at.0 in
         let sum = weight_append b c in
         let k = low i (a ∷ v) b s d (omega arith) in
-        let m = (exact v q (state-tail gens s) t).least c ne l (omega arith) in
+        let m = (exact v q (state_tail gens s) t).least c ne l (omega arith) in
         let k' = closed.read i a v at.0 at.1 s (omega arith) in
-        let o = closed.F (suc i) v q (omega arith) (omega arith) (state-tail gens s) t (omega arith) in
+        let o = closed.F (suc i) v q (omega arith) (omega arith) (state_tail gens s) t (omega arith) in
         (omega arith, omega arith, omega arith)
 
     module _ (unread : State gens (a ∷ q) → ⊥) where

@@ -11,7 +11,7 @@ use lib.Seq.{take-suc}
 use Rattle.words.specs.Word.{Letter, R, Word, Equal, then}
 use Rattle.words.proofs.NormalForm.{equal_path, equal_behind, equal_before}
 use Rattle.products.specs.Product.{letters}
-use Rattle.products.proofs.States.{State, Leads, letters-append}
+use Rattle.products.proofs.States.{State, Leads, letters_append}
 
 -- The entry of row i + 1 at q is row i's where the letter a is read, or such an entry and the table's together.
 abbrev pub FromRow : List Word → (Word → Word → ℕ) → (ℕ → Word → ℕ) → ℕ → Letter → Word → Type 0
@@ -39,5 +39,5 @@ module _ (gens : List Word) (x : Word) where
   pub chain_sound : (i : ℕ) (v q : Word) (r₁ r₂ : List ℕ)
       → Equal (letters gens r₁) (take i x ++ v) → Leads gens v r₂ q → Equal (letters gens (r₁ ++ r₂)) (take i x ++ q)
   chain_sound i v q r₁ r₂ e l =
-      rw (letters-append gens r₁ r₂)
+      rw (letters_append gens r₁ r₂)
       (then (equal_before (letters gens r₂) e) (then (equal_path (append_assoc (take i x) v (letters gens r₂))) (equal_behind (take i x) l.equal)))

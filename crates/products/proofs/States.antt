@@ -10,7 +10,7 @@ use Prim.Native.Nat.{ℕ}
 use Rattle.words.specs.Word.{Letter, R, S, Word, Equal, rr, sss, none, then}
 use Rattle.words.proofs.NormalForm.{equal_path, equal_inside, equal_behind, equal_before}
 use Rattle.products.specs.Product.{generator, Factor, Series, letters}
-use Rattle.products.proofs.Series.{each_append, spelled-append, spelled-snoc}
+use Rattle.products.proofs.Series.{each_append, spelled_append, spelled_snoc}
 pub use Rattle.products.specs.State.{State, nothing, suffix, Leads}
 
 -- the word does not begin with S
@@ -27,7 +27,7 @@ series_last (j ∷ k ∷ r) h = let (front, last, e) = series_last (k ∷ r) (λ
 
 module _ (gens : List Word) where
   pub letters_append : (a b : List ℕ) → letters gens (a ++ b) ≡ letters gens a ++ letters gens b
-  letters_append a b = spelled-append (generator gens) a b
+  letters_append a b = spelled_append (generator gens) a b
 
   pub series_append : (a b : List ℕ) → Series gens a → Series gens b → Series gens (a ++ b)
   series_append a b h k = each_append (Factor gens) a b h k
@@ -77,7 +77,7 @@ module _ (gens : List Word) where
       }
     where
       whole : u ++ letters gens r ≡ (u ++ (letters gens e.front ++ e.part)) ++ q
-      whole = rw (e.split, spelled-snoc (generator gens) e.front e.last, e.generates) (simp append_assoc)
+      whole = rw (e.split, spelled_snoc (generator gens) e.front e.last, e.generates) (simp append_assoc)
 
   pub leads_ends_nothing : {u : Word} {r : List ℕ} → Leads gens u r [] → r ≢ [] → Ends u r []
   leads_ends_nothing {u} {r} l h =
@@ -91,7 +91,7 @@ module _ (gens : List Word) where
         series = series_front front (last ∷ []) s;
         factor = (series_behind front (last ∷ []) s).0;
         generates = sym (append-nil (generator gens last));
-        cancels = rw (e, spelled-snoc (generator gens) front last) at l.equal;
+        cancels = rw (e, spelled_snoc (generator gens) front last) at l.equal;
       }
 
   pub leads_append : {u v w : Word} {a b : List ℕ} → Leads gens u a v → Leads gens v b w → Leads gens u (a ++ b) w

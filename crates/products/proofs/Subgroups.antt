@@ -12,17 +12,17 @@ use Rattle.words.specs.Word.{Word, Equal, none, back, then, inverse}
 use Rattle.words.proofs.NormalForm.{equal_path, equal_append}
 use Rattle.words.proofs.Inverse.{inverse_inverse, inverse_append, inverse_equal}
 use Rattle.products.specs.Product.{generator, Factor, Each, spelled, plain, signed, inverse_mark, measure, Reaches, Rival, NoneRight, MemberRight}
-use Rattle.products.proofs.Series.{each_on, each_append, spelled-on, spelled-snoc}
+use Rattle.products.proofs.Series.{each_on, each_append, spelled_on, spelled_snoc}
 use Rattle.products.proofs.Rivals.{rival_of}
-use Rattle.products.proofs.Doubled.{Twin, given, inverted, twin_of_number, number-given, number-inverted, word-given, word-inverted}
+use Rattle.products.proofs.Doubled.{Twin, given, inverted, twin_of_number, number_given, number_inverted, word_given, word_inverted}
 
 module _ (gens : List Word) (few : length gens ≤ inverse_mark) where
   -- a rival without inverses is one with them, and reaches the same
   pub plain_rival : {n : ℕ} {r : List ℕ} → Rival (plain gens) n r → Rival (signed gens) n r
-  plain_rival {n} {r} k = rival_of (each_on (Factor gens) (number-given gens few) r k.series) k.counted k.within
+  plain_rival {n} {r} k = rival_of (each_on (Factor gens) (number_given gens few) r k.series) k.counted k.within
 
   pub plain_reaches : (r : List ℕ) (target : Word) → Each (Factor gens) r → Reaches (plain gens) r target → Reaches (signed gens) r target
-  plain_reaches r target h e = rw (spelled-on (Factor gens) (word-given gens few) r h) e
+  plain_reaches r target h e = rw (spelled_on (Factor gens) (word_given gens few) r h) e
 
   pub signed_none : (target : Word) (n : ℕ) → NoneRight (signed gens) target n → NoneRight (plain gens) target n
   signed_none target n right r k e = right r (plain_rival k) (plain_reaches r target k.series e)
@@ -39,9 +39,9 @@ module _ (gens : List Word) (few : length gens ≤ inverse_mark) where
   -- a generator's opposite is its inverse, and an inverse's is the generator
   opposite : {i k : ℕ} → Twin (length gens) i k → (l : ℕ) × (signed gens).Number l × Equal ((signed gens).word_of l) (inverse ((signed gens).word_of k))
   opposite {i} (given h e) =
-      (inverse_mark + i, number-inverted gens few i h, rw (e, word-given gens few i h) (equal_path (word-inverted gens few i)))
+      (inverse_mark + i, number_inverted gens few i h, rw (e, word_given gens few i h) (equal_path (word_inverted gens few i)))
   opposite (inverted j h d e) =
-      (j, number-given gens few j h, rw (e, word-given gens few j h, word-inverted gens few j) (back (inverse_inverse (generator gens j))))
+      (j, number_given gens few j h, rw (e, word_given gens few j h, word_inverted gens few j) (back (inverse_inverse (generator gens j))))
 
   pub inverse_product : (r : List ℕ) → Each (signed gens).Number r
       → (s : List ℕ) × Each (signed gens).Number s × (measure s ≡ measure r)
@@ -53,7 +53,7 @@ module _ (gens : List Word) (few : length gens ≤ inverse_mark) where
         s ++ l ∷ [],
         each_append (signed gens).Number s (l ∷ []) each (number, tt),
         omega (arith, length-append s (l ∷ [])),
-        rw (spelled-snoc (signed gens).word_of s l, inverse_append ((signed gens).word_of k) (spelled (signed gens).word_of r)) (equal_append equal against),
+        rw (spelled_snoc (signed gens).word_of s l, inverse_append ((signed gens).word_of k) (spelled (signed gens).word_of r)) (equal_append equal against),
       )
 
   pub inverse_reached : (n : ℕ) (r : List ℕ) (target : Word) → Rival (signed gens) n r → Reaches (signed gens) r target

@@ -9,10 +9,10 @@ use Prim.Native.Nat.{ℕ, ◌+◌, ◌≤◌}
 use native.Mathlib.Omega.{arith}
 use Rattle.words.specs.Word.{Letter, R, S, Word}
 use Rattle.products.specs.Product.{generator, Factor, Series}
-use Rattle.products.proofs.States.{NotS, State, Leads, Ends, Step, A, B, C, D, E, F, state-tail, ends_state, ends_not_empty, leads_ends_nothing}
+use Rattle.products.proofs.States.{NotS, State, Leads, Ends, Step, A, B, C, D, E, F, state_tail, ends_state, ends_not_empty, leads_ends_nothing}
 use Rattle.products.proofs.OneStep.{AllReduced, state_reduced}
 use Rattle.products.proofs.FirstLetter.{FirstLetter, kept, ended, passed, first_letter}
-use Rattle.products.proofs.Induction.{Known, Shorter, Deeper, lengths-induction, ends-induction, shorter_parts}
+use Rattle.products.proofs.Induction.{Known, Shorter, Deeper, lengths_induction, ends_induction, shorter_parts}
 
 module _ (gens : List Word) (weight : List ℕ → ℕ) (n : ℕ) (T : Word → Word → ℕ) where
   -- Each rule holds as an inequality wherever its premises add up to no more than n. T u v is the entry at the pair u, v of states.
@@ -51,13 +51,13 @@ module _ (gens : List Word)
 
   least_step : (u : Word) (r : List ℕ) (q : Word) → Step gens (Known gens all Least) u r q → Least u r q
   least_step u r q (A j f) s h = closed.A j f h
-  least_step u r q (B {x} t k) s h = let i = k.1 (state-tail gens s) h in omega (arith, closed.B x q s t (omega arith))
-  least_step u r q (C {x} t k) s h = let i = k.1 (state-tail gens (state-tail gens s)) h in omega (arith, closed.C x q s t (omega arith))
-  least_step u r q (D {x} no_s t k) s h = let i = k.1 (state-tail gens s) h in omega (arith, closed.D x q no_s s t (omega arith))
+  least_step u r q (B {x} t k) s h = let i = k.1 (state_tail gens s) h in omega (arith, closed.B x q s t (omega arith))
+  least_step u r q (C {x} t k) s h = let i = k.1 (state_tail gens (state_tail gens s)) h in omega (arith, closed.C x q s t (omega arith))
+  least_step u r q (D {x} no_s t k) s h = let i = k.1 (state_tail gens s) h in omega (arith, closed.D x q no_s s t (omega arith))
   least_step u r q (E {x} {w} {a} {b} no_s t t' k l) s h =
       let sum = weight_append a b in
-      let i = k.1 (state-tail gens s) (omega arith) in
-      let j = l.1 (state-tail gens t) (omega arith) in
+      let i = k.1 (state_tail gens s) (omega arith) in
+      let j = l.1 (state_tail gens t) (omega arith) in
       omega (arith, closed.E x w q no_s s t t' (omega arith))
   least_step u r q (F {v} {a} {b} t t' k l) s h =
       let sum = weight_append a b in
@@ -66,7 +66,7 @@ module _ (gens : List Word)
       omega (arith, closed.F u v q s t t' (omega arith))
 
   pub ends_least : {u q : Word} {r : List ℕ} → State gens u → Ends gens u r q → weight r ≤ n → T u q ≤ weight r
-  ends_least s e h = ends-induction gens all Least least_step (state_reduced gens all s) e s h
+  ends_least s e h = ends_induction gens all Least least_step (state_reduced gens all s) e s h
 
   abbrev LeastLead : List ℕ → Word → Type 0
   LeastLead r u = (v : Word) → State gens u → State gens v → r ≢ [] → Leads gens u r v → weight r ≤ n → T u v ≤ weight r
@@ -74,7 +74,7 @@ module _ (gens : List Word)
   least_first : {u y : Word} {r : List ℕ} {a : Letter} → Shorter LeastLead r → Deeper LeastLead r u
       → State gens u → State gens (a ∷ y) → r ≢ [] → weight r ≤ n → FirstLetter gens u r a y → T u (a ∷ y) ≤ weight r
   least_first {y} shorter deeper s t ne h (kept {a} {z} l) =
-      let i = deeper z (omega arith) y (state-tail gens s) (state-tail gens t) ne l h in
+      let i = deeper z (omega arith) y (state_tail gens s) (state_tail gens t) ne l h in
       omega (arith, closed.G a z y s t (omega arith))
   least_first shorter deeper s t ne h (ended e) = ends_least s e h
   least_first {u} {y} {a} shorter deeper s t ne h (passed {z} {p} {r} e not l) =
@@ -90,4 +90,4 @@ module _ (gens : List Word)
       least_first shorter deeper s t ne h (first_letter gens all (state_reduced gens all s) (state_reduced gens all t) l)
 
   pub table_least : (u v : Word) → State gens u → State gens v → (r : List ℕ) → r ≢ [] → Leads gens u r v → weight r ≤ n → T u v ≤ weight r
-  table_least u v s t r ne l h = lengths-induction LeastLead least_lead r u v s t ne l h
+  table_least u v s t r ne l h = lengths_induction LeastLead least_lead r u v s t ne l h

@@ -17,7 +17,7 @@ use Rattle.products.specs.State.{weightless}
 use Rattle.products.proofs.States.{nothing}
 use Rattle.products.proofs.OneStep.{AllReduced}
 use Rattle.products.proofs.Rows.{RowsClosed, RowsAttained}
-use Rattle.products.proofs.RowClasses.{reads_series, reads_some, reads_made, row-reached, rows-least}
+use Rattle.products.proofs.RowClasses.{reads_series, reads_some, reads_made, row_reached, rows_least}
 use Rattle.products.proofs.Exact.{ExactBy}
 use Rattle.products.proofs.Rivals.{counted_some, some_counted, rival_of}
 
@@ -41,7 +41,7 @@ weightless_append a b = refl
 module _ (gens : List Word) (n : ℕ) (T : Word → Word → ℕ) (x : Word) (Row : ℕ → Word → ℕ) (exact : ExactBy gens weightless n T) where
   pub verdict_yes : RowsAttained gens n T x Row → Row (length x) [] ≤ n → YesRight (plain gens) x
   verdict_yes rows h =
-      let (r, reads, weighs) = row-reached gens weightless weightless_append n T x Row exact rows (length x) (le_refl (length x)) [] nothing h in (
+      let (r, reads, weighs) = row_reached gens weightless weightless_append n T x Row exact rows (length x) (le_refl (length x)) [] nothing h in (
         r,
         reads_series gens x reads,
         some_counted (reads_some gens x reads),
@@ -51,5 +51,5 @@ module _ (gens : List Word) (n : ℕ) (T : Word → Word → ℕ) (x : Word) (Ro
   -- every series weighs nothing, and the entry is no more than that of one that reaches x
   pub verdict_no : AllReduced gens → RowsClosed gens n T x Row → Reduced x → 0 < Row (length x) [] → NoRight (plain gens) x
   verdict_no all rows reduced h r s c e =
-      let least = rows-least gens weightless weightless_append n T x Row exact all rows reduced r (counted_some c) s e (omega arith) in
+      let least = rows_least gens weightless weightless_append n T x Row exact all rows reduced r (counted_some c) s e (omega arith) in
       absurd (omega arith)

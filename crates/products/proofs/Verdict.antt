@@ -12,11 +12,11 @@ use lib.Seq.{take-length}
 use Rattle.words.specs.Word.{Letter, R, Word}
 use Rattle.words.proofs.Reduced.{Reduced}
 use Rattle.products.specs.Product.{Reaches, measure, Rival, NoneRight, MemberRight, plain}
-use Rattle.products.proofs.States.{State, state-tail}
+use Rattle.products.proofs.States.{State, state_tail}
 use Rattle.products.proofs.OneStep.{AllReduced}
 use Rattle.products.proofs.Order.{no_later_not_before}
 use Rattle.products.proofs.Rows.{FromRow, RowsClosed, RowsAttained}
-use Rattle.products.proofs.RowClasses.{reads_series, reads_some, reads_made, rows-least}
+use Rattle.products.proofs.RowClasses.{reads_series, reads_some, reads_made, rows_least}
 use Rattle.products.proofs.RowFirsts.{RowFirst, row_first_all}
 use Rattle.products.proofs.Rivals.{counted_some, some_counted, rival_of}
 use Rattle.products.proofs.Tables.{Closed}
@@ -65,7 +65,7 @@ module _ (gens : List Word) (n : ℕ) (T : Word → Word → ℕ) (x : Word) (Ro
           first = rounds.first;
           read = λ i a q h e s k.
               let same = rounds.read_is i a q h e s in
-              omega (arith, rounds.read i q h (state-tail gens s) (omega arith));
+              omega (arith, rounds.read i q h (state_tail gens s) (omega arith));
           F = chain;
         }
       where
@@ -83,7 +83,7 @@ module _ (gens : List Word) (n : ℕ) (T : Word → Word → ℕ) (x : Word) (Ro
     (all : AllReduced gens) (exact : Exact gens n T) (rows : RowsClosed gens n T x Row) (reduced : Reduced x) where
   rival_least : (r : List ℕ) → Rival (plain gens) n r → Reaches (plain gens) r x → Row (length x) [] ≤ measure r
   rival_least r k e =
-      rows-least gens measure measure_append n T x Row exact all rows reduced r (counted_some k.counted) k.series e k.within
+      rows_least gens measure measure_append n T x Row exact all rows reduced r (counted_some k.counted) k.series e k.within
 
   pub verdict_none : n < Row (length x) [] → NoneRight (plain gens) x n
   verdict_none h r k e = let within = k.within in omega (arith, rival_least r k e)

@@ -10,7 +10,7 @@ use Rattle.refusals.specs.declared.Asked.TheVariants.{Passed}
 use Rattle.words.proofs.Reduced.{normal_of_reduced}
 use Rattle.products.specs.Product.{generator}
 use Rattle.products.specs.State.{AllNormal}
-use Rattle.products.proofs.Reducing.{reduced-all}
+use Rattle.products.proofs.Reducing.{reduced_all}
 use Rattle.lists.specs.Questions.{question11}
 use Rattle.lists.specs.NormalList.{total, normal_bytes, normal_ends}
 use Rattle.lists.proofs.NormalList.{normal_bytes_length, normal_ends_length, normal_list, normal_ends_rise, normal_ends_within}
@@ -27,7 +27,7 @@ forms_reduced words few short =
       few = omega arith;
       rising = λ i j h k. normal_ends_rise 0 words i j h (omega arith);
       within = λ j k. omega (arith, normal_ends_within 0 words j (omega arith), normal_bytes_length words);
-      normal = subst AllNormal (sym (normal_list words)) (λ j f. normal_of_reduced (generator (map nf words) j) (reduced-all words j f));
+      normal = subst AllNormal (sym (normal_list words)) (λ j f. normal_of_reduced (generator (map nf words) j) (reduced_all words j f));
     }
 
 -- and so are those of generators that pass question 11

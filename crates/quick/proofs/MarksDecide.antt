@@ -15,10 +15,10 @@ use Rattle.words.specs.Bytes.{word}
 use Rattle.products.specs.Product.{generators_from, generators, generator, Factor, plain}
 use Rattle.products.proofs.Generators.{generators_length}
 use Rattle.lists.specs.Reducing.{Checked}
-use Rattle.lists.proofs.Behind.{Behind, behind_begins, behind-next, generators-next}
+use Rattle.lists.proofs.Behind.{Behind, behind_begins, behind_next, generators_next}
 use Rattle.residues.specs.Residues.{image, QuickNoRight, OpenRight}
 use Rattle.residues.specs.Made.{Made}
-use Rattle.residues.proofs.Closing.{made-open, closed-no}
+use Rattle.residues.proofs.Closing.{made_open, closed_no}
 use Rattle.quick.specs.Calls.{QuickRight}
 use Rattle.quick.specs.Closing.{act, RowsRight, Seen, Marked, Held, TakesIn, told_by}
 use Rattle.quick.specs.declared.Quick.TheVariants.{No, Open}
@@ -56,11 +56,11 @@ module _ (gens : List Word) (j target : ℕ) (rows visited : List ℕ) (taken : 
   from_list b h = let (i, low, f) = held.from_list b h in (i, omega arith, f)
 
   pub held_open : Seen visited target → OpenRight (plain gens) w
-  held_open s = made-open gens (act rows) taken from_list w (subst (λ (k : ℕ). Made (act rows) taken k) e (held.made target s))
+  held_open s = made_open gens (act rows) taken from_list w (subst (λ (k : ℕ). Made (act rows) taken k) e (held.made target s))
 
   held_no : length gens ≤ j → (Seen visited target → ⊥) → QuickNoRight (plain gens) w
   held_no all unless =
-      closed-no gens (act rows) taken from_list (Seen visited) held.made (λ i h. held.covers i (omega arith)) (λ k b s h. held.closed unless k b s h) w
+      closed_no gens (act rows) taken from_list (Seen visited) held.made (λ i h. held.covers i (omega arith)) (λ k b s h. held.closed unless k b s h) w
       (λ s. unless (subst (Seen visited) (sym e) s))
 
   pub held_told : length gens ≤ j → QuickRight gens w (told_by (get_or visited target 0))
@@ -102,13 +102,13 @@ module _ (bytes ends : List ℕ) (target : ℕ) where
         → img ≡ image (word (slice from end bytes)) → TakesIn img target rows visited queue sizes rows' visited' queue' sizes'
         → Taking bytes ends target end (i + 1) rows' visited' queue' sizes'
     taking_more end img inside e f takes =
-        let next = t.to_come ∙ generators-next bytes ends from i inside e in
+        let next = t.to_come ∙ generators_next bytes ends from i inside e in
         let gens = generators bytes ends in
         let g = word (slice from end bytes) in
         let rest = generators_from bytes end (drop (i + 1) ends) in
         record {
           within = omega arith;
-          behind = behind-next bytes ends from i inside e t.behind;
+          behind = behind_next bytes ends from i inside e t.behind;
           to_come = behind_it gens i g rest next;
           size = takes.size ∙ t.size;
           few = omega (arith, takes.few, t.few);

@@ -16,11 +16,11 @@ use borrow.Author.Tests.{lt-ltb, le-ltb}
 use Rattle.residues.specs.Residues.{multiplied}
 use Rattle.residues.specs.Made.{Made, more}
 use Rattle.quick.specs.Closing.{act, Seen, Marked, Grown, Visits, AllMade, Spreads, first_new, OldUsed, ClosedUnless}
-use Rattle.quick.proofs.Marks.{grown-none, grown_then}
+use Rattle.quick.proofs.Marks.{grown_none, grown_then}
 
 module _ (rows : List ℕ) (from taken i : ℕ) (v₀ q₀ : List ℕ) (n₀ : ℕ) (m₀ : Marked v₀ q₀ n₀) (inside : i < n₀) where
   pub spreads_none : Spreads rows from from taken i v₀ q₀ n₀ v₀ q₀ n₀
-  spreads_none = record { marked = m₀; grown = grown-none v₀ q₀ n₀; used = λ b low high. absurd (omega arith); made = λ made. made }
+  spreads_none = record { marked = m₀; grown = grown_none v₀ q₀ n₀; used = λ b low high. absurd (omega arith); made = λ made. made }
 
   pub spreads_more : {v q v' q' : List ℕ} {n n' : ℕ} (b p : ℕ) → b < taken → p ≡ multiplied (act rows b) (get_or q₀ i 0)
       → Spreads rows from b taken i v₀ q₀ n₀ v q n → Visits p v q n v' q' n' → Spreads rows from (b + 1) taken i v₀ q₀ n₀ v' q' n'

@@ -8,7 +8,7 @@ use lib.ListN.{length, drop, get_or, drop_of_length-le}
 use lib.Seq.{drop-cons}
 use Rattle.words.specs.Bytes.{letter, word}
 use Rattle.residues.specs.Residues.{image, times_letter}
-use Rattle.residues.proofs.Numbering.{times-letter-small}
+use Rattle.residues.proofs.Numbering.{times_letter_small}
 use Rattle.residues.proofs.Images.{walked, walked_image}
 use Rattle.quick.specs.Table.{column, letter_of}
 use Rattle.quick.proofs.Tables.{unit_21, letter_of_column}
@@ -28,7 +28,7 @@ walking_more letters k i inside w {at} {k'} e f =
     let x = letter (get_or letters i 0) in
     let step : k' ≡ times_letter k x = f ∙ ap (λ (c : ℕ). times_letter k (letter_of c)) e ∙ ap (times_letter k) (letter_of_column x) in
     record {
-      small = rw step (times-letter-small k w.small x);
+      small = rw step (times_letter_small k w.small x);
       leads =
           rw (step, add-one i) (sym (ap (λ (l : List ℕ). walked k (word l)) (drop-cons letters i 0 inside)) ∙ w.leads);
     }

@@ -10,7 +10,7 @@ use Rattle.refusals.specs.declared.Asked.{Asked}
 use Rattle.refusals.specs.declared.Asked.TheVariants.{Passed, Refused}
 use Rattle.refusals.proofs.Asking.{first_no_refused, first_no_passed, first_no_one}
 use Rattle.products.specs.Product.{generators}
-use Rattle.products.proofs.Reducing.{yes-reduced, no-reduced}
+use Rattle.products.proofs.Reducing.{yes_reduced, no_reduced}
 use Rattle.lists.specs.Questions.{of_list, question11}
 use Rattle.lists.specs.NormalList.{total}
 use Rattle.sizes.specs.Questions.{side}
@@ -20,12 +20,12 @@ use Rattle.reach.specs.Calls.{Lent, ReachedRight, ReachedBy, Reaches}
 use Rattle.reach.specs.Deciding.{ReachesForm}
 use Rattle.reach.specs.declared.Reached.{Reached}
 use Rattle.reach.specs.declared.Reached.TheVariants.{Yes, No, Refused as Reached-as-Refused}
-use Rattle.reach.proofs.AfterQuestions.{reached-refused}
+use Rattle.reach.proofs.AfterQuestions.{reached_refused}
 
 -- a verdict on the reduced list and target is one on the given ones
 given_right : (gens : List Word) (target : Word) (r : Reached) → ReachedRight (map nf gens) (nf target) r → ReachedRight gens target r
-given_right gens target Yes right = (yes-reduced gens target).0 right
-given_right gens target No right = (no-reduced gens target).0 right
+given_right gens target Yes right = (yes_reduced gens target).0 right
+given_right gens target No right = (no_reduced gens target).0 right
 given_right gens target (Reached-as-Refused refusal) right = right
 
 given_reached : (gens : List Word) (target : Word) (asked : Asked) (q : ℕ) (r : Reached) (before after : Lent)
@@ -50,7 +50,7 @@ module _ (bytes ends target : List ℕ) where
   pub reaches_refused : {refusal : Refusal} (lent : Lent) → of_query bytes ends target ≡ Refused refusal
       → Reaches bytes ends target (Reached-as-Refused refusal) lent lent
   reaches_refused lent e =
-      reached-refused (of_reachable bytes ends target (length lent.first) (length lent.second)) q gens (word target) lent
+      reached_refused (of_reachable bytes ends target (length lent.first) (length lent.second)) q gens (word target) lent
       (first_no_refused early (late lent ∷ []) e)
 
   pub reaches_reduced : (r : Reached) (before after : Lent) (m : ℕ) (form : Word) → of_query bytes ends target ≡ Passed → m ≡ total gens → form ≡ nf (word target)

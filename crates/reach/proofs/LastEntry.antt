@@ -20,10 +20,10 @@ use Rattle.trees.specs.Numbering.{numbered}
 use Rattle.trees.proofs.Remaining.{drop_later}
 use Rattle.tables.specs.Filling.{Fills as FillsTable}
 use Rattle.tables.proofs.Filled.{table_filled}
-use Rattle.tables.proofs.Exact.{tree-fits}
+use Rattle.tables.proofs.Exact.{tree_fits}
 use Rattle.rows.specs.Rows.{Fills as FillsRows}
 use Rattle.rows.proofs.FilledFits.{filled_fits, rows_filled}
-use Rattle.rows.proofs.Reaching.{row-yes, row-no}
+use Rattle.rows.proofs.Reaching.{row_yes, row_no}
 use Rattle.queries.specs.Ready.{ReadyFor}
 use Rattle.reach.specs.Calls.{Lent, ReachedRight}
 use Rattle.reach.specs.Deciding.{of_entry, Decides}
@@ -54,7 +54,7 @@ module _ {gens : List Word} {m count : ℕ} {letters rests children_r children_s
     decided =
         let q : ℕ = side m (length form) in
         let (pairs_within, rows_within) = square_within m (length form) count ready.few in
-        let fits = tree-fits ready.tree {n = 1} {table = lent.first} ready.size (omega (arith, few_nodes)) (omega arith) (omega (arith, pairs_within, passed.first_room)) in
+        let fits = tree_fits ready.tree {n = 1} {table = lent.first} ready.size (omega (arith, few_nodes)) (omega arith) (omega (arith, pairs_within, passed.first_room)) in
         let closed = table_filled r closes fits in
         let filled = rows_filled s fills
         (filled_fits form lent.second fits closed few_nodes ready.form_short (omega (arith, rows_within, passed.second_room))) in
@@ -62,8 +62,8 @@ module _ {gens : List Word} {m count : ℕ} {letters rests children_r children_s
         record {
           right =
               by_entry gens (word form) (at rows (length form * count))
-              (row-yes ready.normal ready.tree ready.size led filled.right)
-              (row-no ready.normal ready.tree ready.size led filled.right ready.form_normal);
+              (row_yes ready.normal ready.tree ready.size led filled.right)
+              (row_no ready.normal ready.tree ready.size led filled.right ready.form_normal);
           first = drop_later (count * count) (q * q) table lent.first pairs_within closed.kept;
           second = drop_later (suc (length form) * count) (q * q) rows lent.second rows_within filled.kept;
         }

@@ -9,7 +9,7 @@ use Prim.Native.Nat.{ℕ}
 use native.Mathlib.Nat.{le_refl, not-suc-le-zero}
 use Rattle.words.specs.Word.{Word, Equal}
 use Rattle.products.specs.Product.{generator, Factor, plain, Reaches, Rival, YesRight}
-use Rattle.products.proofs.Relations.{vanishing-relation}
+use Rattle.products.proofs.Relations.{vanishing_relation}
 use Rattle.reach.specs.Calls.{ReachedRight}
 use Rattle.reach.specs.declared.Reached.{Reached}
 use Rattle.reach.specs.declared.Reached.TheVariants.{Yes, No, Refused}
@@ -22,7 +22,7 @@ product_yes gens target (Refused refusal) right n s rival reaches = absurd right
 
 pub vanishing_yes : (gens : List Word) (r : Reached) → ReachedRight gens [] r → (i : ℕ) → Factor gens i → Equal (generator gens i) [] → r ≡ Yes
 vanishing_yes gens r right i inside vanishes =
-    let (rival, reaches) = vanishing-relation gens i inside 1 (le_refl 1) vanishes in
+    let (rival, reaches) = vanishing_relation gens i inside 1 (le_refl 1) vanishes in
     product_yes gens [] r right 1 (i ∷ []) rival reaches
 
 -- an empty list has no product

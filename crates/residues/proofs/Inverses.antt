@@ -18,12 +18,12 @@ use Rattle.words.proofs.Inverse.{inverse_word}
 use Rattle.unimodular.specs.Matrix.{Matrix, unit, negated, times, matrix_of}
 use Rattle.unimodular.proofs.Product.{matrix_of_append}
 use Rattle.products.specs.Product.{Factor, generator, Each, spelled, letters, Series, Counted, plain, signed, unsigned, inverse_mark, NoneRight}
-use Rattle.products.proofs.Series.{spelled-append, each_append}
+use Rattle.products.proofs.Series.{spelled_append, each_append}
 use Rattle.residues.specs.Residues.{Quadruple, residues, matrix, Agree, quadruples, numbering, is_same, numbered, image, multiplied, QuickNoRight}
 use Rattle.residues.proofs.Every.{every, at}
 use Rattle.residues.proofs.Numbering.{there_are_168, same_quadruple, agree_trans, agree_times}
 use Rattle.residues.proofs.Images.{image_modulo, image_small, image_product, agreed_images, equal_images, product_image}
-use Rattle.residues.proofs.Quick.{quick-none}
+use Rattle.residues.proofs.Quick.{quick_none}
 
 -- ---- powers
 
@@ -119,7 +119,7 @@ module _ (gens : List Word) where
       sym
       (inverse_image (generator gens i) (letters gens (others i))
       (ap image
-      (power_along ◌++◌ ◌++◌ (letters gens) (spelled-append (generator gens)) (i ∷ []) ∙ ap (power84 ◌++◌) (append-nil (generator gens i)))
+      (power_along ◌++◌ ◌++◌ (letters gens) (spelled_append (generator gens)) (i ∷ []) ∙ ap (power84 ◌++◌) (append-nil (generator gens i)))
       ∙ order_84 (generator gens i)))
 
   others_series : (i : ℕ) → Factor gens i → Series gens (others i)
@@ -160,7 +160,7 @@ module _ (gens : List Word) where
         plainly k ++ s,
         each_append (Factor gens) (plainly k) s (plainly_series k h.0) series,
         omega (arith, length-append (plainly k) s),
-        ap image (spelled-append (generator gens) (plainly k) s)
+        ap image (spelled_append (generator gens) (plainly k) s)
             ∙ image_product (letters gens (plainly k)) (letters gens s)
             ∙ ap₂ multiplied (plainly_image k) same
             ∙ sym (image_product ((signed gens).word_of k) (spelled (signed gens).word_of r)),
@@ -172,4 +172,4 @@ module _ (gens : List Word) where
       right s series (omega arith) (product_image (plain gens) s ∙ same ∙ sym (product_image (signed gens) r) ∙ e)
 
   pub signed_none : (target : Word) → QuickNoRight (plain gens) target → (n : ℕ) → NoneRight (signed gens) target n
-  signed_none target right = quick-none (signed gens) target (signed_quick target right)
+  signed_none target right = quick_none (signed gens) target (signed_quick target right)

@@ -18,7 +18,7 @@ use Rattle.tables.specs.Rules.{place}
 use Rattle.rows.specs.Rows.{read_node, read_entry, PathRows, Fits}
 use Rattle.rows.specs.Rounds.{Rewritten, least_sum, RowFits, NextRow}
 use Rattle.rows.proofs.Rewriting.{same_rest}
-use Rattle.rows.proofs.Sums.{sum_same, sum_low, sum-round, sum-attained}
+use Rattle.rows.proofs.Sums.{sum_same, sum_low, sum_round, sum_attained}
 use Rattle.rows.proofs.Parts.{row_inside}
 use Rattle.rows.proofs.NextRows.{read_low}
 
@@ -44,8 +44,8 @@ module _ {count n : ℕ} {children_r children_s target table : List ℕ} where
       record {
         start = f.start;
         low = λ i q h k. omega (arith, f.made i q h k, sum_low count table (read i) q count);
-        round = λ i v q h g k. omega (arith, f.made i q h k, sum-round count table (read i) q count v g);
-        attained = λ i q h k. from i q (f.made i q h k) (sum-attained count table (read i) q count);
+        round = λ i v q h g k. omega (arith, f.made i q h k, sum_round count table (read i) q count v g);
+        attained = λ i q h k. from i q (f.made i q h k) (sum_attained count table (read i) q count);
       }
     where
       read : ℕ → ℕ → ℕ

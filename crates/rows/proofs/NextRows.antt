@@ -14,7 +14,7 @@ use Rattle.trees.specs.Bounds.{AtMost}
 use Rattle.tables.specs.Rules.{place}
 use Rattle.rows.specs.Rounds.{read_at, least_sum, NextRow}
 use Rattle.rows.proofs.Sums.{sum_same}
-use Rattle.rows.proofs.Parts.{part, part_at, put-length, put_front, put-part, put_rest}
+use Rattle.rows.proofs.Parts.{part, part_at, put_length, put_front, put_part, put_rest}
 
 pick_low : (t : Bool) (a b k : ℕ) → a ≤ k → b ≤ k → pick t a b ≤ k
 pick_low true a b k h g = h
@@ -40,10 +40,10 @@ module _ (count n i : ℕ) (children table rows : List ℕ) (inside : (p : ℕ) 
   next_row row long sums =
       let after = put_mid (i * count + count) (i * count + count + count - (i * count + count)) rows row in
       record {
-        long = put-length rows (i * count + count) count (omega arith) row long;
+        long = put_length rows (i * count + count) count (omega arith) row long;
         made = λ q h.
             let here : place count (suc i) q ≡ i * count + count + q = omega arith in
-            ap (at after) here ∙ put-part rows (i * count + count) count (omega arith) row long q h ∙ sums q h
+            ap (at after) here ∙ put_part rows (i * count + count) count (omega arith) row long q h ∙ sums q h
             ∙ sum_same count table (at first) (read_at n children (λ p. at rows (place count i p))) q count h (le_refl count) read_at_lem;
         front = λ p h. put_front rows (i * count + count) count (omega arith) row long p (omega arith);
         rest = λ p h. put_rest rows (i * count + count) count (omega arith) row long p (omega arith);

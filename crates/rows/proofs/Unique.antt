@@ -14,7 +14,7 @@ use Rattle.refusals.specs.Telling.{pick}
 use Rattle.trees.specs.Tree.{at}
 use Rattle.tables.specs.Rules.{place}
 use Rattle.rows.specs.Rows.{read_node, read_entry, PathRows, Fits, Filled, Fills}
-use Rattle.rows.proofs.MadeRows.{child-inside}
+use Rattle.rows.proofs.MadeRows.{child_inside}
 
 module _ {count n : ℕ} {children_r children_s target table before : List ℕ} (fits : Fits count n children_r children_s target table before) {t : ℕ} where
   -- an entry of a row is no higher than another program's, where the rows before agree
@@ -27,7 +27,7 @@ module _ {count n : ℕ} {children_r children_s target table before : List ℕ} 
           → read_entry count n children_r children_s target table rows i v ≡ read_entry count n children_r children_s target table rows' i v
       read_same v l =
           let child = read_node count n children_r children_s target table before i v in
-          ap (pick (eqb child 0) (n + 1)) (same child (child-inside fits i v l))
+          ap (pick (eqb child 0) (n + 1)) (same child (child_inside fits i v l))
 
       by : {x : ℕ} → (x ≡ read_entry count n children_r children_s target table rows' i q)
           ⊎ ((v : ℕ) × (v < count) × (x ≡ read_entry count n children_r children_s target table rows' i v + at table (place count v q)))

@@ -17,11 +17,11 @@ use Rattle.words.specs.Word.{Letter, R, S, Word}
 use Rattle.refusals.specs.Telling.{pick}
 use Rattle.words.specs.Bytes.{letter, word}
 use Rattle.products.specs.State.{State, LeastBy}
-use Rattle.products.proofs.States.{state-tail}
+use Rattle.products.proofs.States.{state_tail}
 use Rattle.products.proofs.Exact.{ExactBy}
 use Rattle.products.proofs.Verdict.{AtLeast, Rounds}
 use Rattle.trees.specs.Tree.{at, word_at, Child, Tree}
-use Rattle.trees.proofs.Nodes.{node_number, node-number-at, state-number}
+use Rattle.trees.proofs.Nodes.{node_number, node_number_at, state_number}
 use Rattle.tables.specs.Rules.{place}
 use Rattle.rows.specs.Rows.{read_node, read_entry, PathRows}
 
@@ -46,17 +46,17 @@ module _ (gens words : List Word) (count n : ℕ) (letters rests children_r chil
     (tree : Tree gens words letters rests children_r children_s wholes) (size : length words ≡ count) where
   -- the empty word is node 0
   pub root_number : node_number words [] ≡ 0
-  root_number = ap (node_number words) (sym tree.root) ∙ node-number-at tree 0 tree.shape.some
+  root_number = ap (node_number words) (sym tree.root) ∙ node_number_at tree 0 tree.shape.some
 
   -- a state's number is a node's
   number_inside : (q : Word) → State gens q → node_number words q < count
-  number_inside q s = omega (arith, (state-number tree q s).0)
+  number_inside q s = omega (arith, (state_number tree q s).0)
 
   pub table_exact : (weight : List ℕ → ℕ)
       → ((p q : ℕ) → p < count → q < count → LeastBy gens weight n (word_at words p) (word_at words q) (at table (place count p q)))
       → ExactBy gens weight n (table_at words count table)
   table_exact weight exact u v s t =
-      subst₂ (λ (x y : Word). LeastBy gens weight n x y (table_at words count table u v)) (state-number tree u s).1 (state-number tree v t).1
+      subst₂ (λ (x y : Word). LeastBy gens weight n x y (table_at words count table u v)) (state_number tree u s).1 (state_number tree v t).1
       (exact (node_number words u) (node_number words v) (number_inside u s) (number_inside v t))
 
   module _ (target rows : List ℕ) (path : PathRows count n children_r children_s target table rows (length target)) where
@@ -92,22 +92,22 @@ module _ (gens words : List Word) (count n : ℕ) (letters rests children_r chil
     child_word : (i : ℕ) (a : Letter) (q : Word) → i < length target → get_or (word target) i R ≡ a → State gens q
         → 0 < node i (node_number words q) → word_at words (node i (node_number words q)) ≡ a ∷ q
     child_word i a q h e s z =
-        (child i a (node_number words q) h e (number_inside q s)).there z ∙ ap (λ (x : Word). a ∷ x) (state-number tree q s).1
+        (child i a (node_number words q) h e (number_inside q s)).there z ∙ ap (λ (x : Word). a ∷ x) (state_number tree q s).1
 
     -- a state with the letter in front is that child
     child_number : (i : ℕ) (a : Letter) (q : Word) → i < length target → get_or (word target) i R ≡ a → State gens (a ∷ q)
         → (0 < node i (node_number words q)) × (node i (node_number words q) ≡ node_number words (a ∷ q))
     child_number i a q h e s =
-        let t = state-tail gens s in
+        let t = state_tail gens s in
         let c = node i (node_number words q) in
-        let found = state-number tree (a ∷ q) s in
+        let found = state_number tree (a ∷ q) s in
         let here = number_inside q t in
         elim (ℕ_discrete c 0) [
           | yes z ↦
-              let spelled = found.1 ∙ ap (λ (x : Word). a ∷ x) (sym (state-number tree q t).1) in
+              let spelled = found.1 ∙ ap (λ (x : Word). a ∷ x) (sym (state_number tree q t).1) in
               absurd ((child i a (node_number words q) h e here).nowhere z (node_number words (a ∷ q)) found.0 spelled)
           | no z ↦
-              let itself = node-number-at tree c (node_inside i (node_number words q) here) in
+              let itself = node_number_at tree c (node_inside i (node_number words q) here) in
               (omega arith, sym itself ∙ ap (node_number words) (child_word i a q h e t (omega arith)))
         ]
 
@@ -140,5 +140,5 @@ module _ (gens words : List Word) (count n : ℕ) (letters rests children_r chil
             → AtLeast gens (table_at words count table) (read_word words count n children_r children_s target table rows i) q x
         at_least i q (inl e) = inl (omega arith)
         at_least i q (inr (v, h, e)) =
-            let same = ap (λ (p : ℕ). entry i p + at table (place count p (node_number words q))) (node-number-at tree v (omega arith)) in
+            let same = ap (λ (p : ℕ). entry i p + at table (place count p (node_number words q))) (node_number_at tree v (omega arith)) in
             inr (word_at words v, tree.state v (omega arith), omega arith)

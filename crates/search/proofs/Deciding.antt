@@ -12,21 +12,21 @@ use Rattle.words.specs.Bytes.{word}
 use Rattle.products.specs.Product.{MemberRight, plain}
 use Rattle.products.specs.State.{LeastLead}
 use Rattle.trees.specs.Tree.{at, word_at}
-use Rattle.trees.proofs.Nodes.{node-number-at}
+use Rattle.trees.proofs.Nodes.{node_number_at}
 use Rattle.tables.specs.Rules.{place}
 use Rattle.derivations.specs.Ways.{World, world, parts_in, weight_in, whole}
 use Rattle.derivations.specs.Query.{Query}
-use Rattle.derivations.proofs.Series.{firsts-length}
-use Rattle.derivations.proofs.RowParts.{row-weight, row-some, root-inside}
-use Rattle.derivations.proofs.Answer.{attained, derived-right, none_right}
+use Rattle.derivations.proofs.Series.{firsts_length}
+use Rattle.derivations.proofs.RowParts.{row_weight, row_some, root_inside}
+use Rattle.derivations.proofs.Answer.{attained, derived_right, none_right}
 use Rattle.search.specs.Search.{Lent, used, Posed}
 use Rattle.witness.specs.Witness.{Spells, Fits, Derivable, Writes}
 use Rattle.search.specs.Answering.{of_written, Tabulated, Answered}
 use Rattle.search.specs.declared.Found.TheVariants.{None}
 use Rattle.witness.specs.declared.Written.{Written}
 use Rattle.witness.specs.declared.Written.TheVariants.{Series, Unfit}
-use Rattle.search.proofs.SameRows.{path-same}
-use Rattle.search.proofs.Laid.{Laid, laid-append}
+use Rattle.search.proofs.SameRows.{path_same}
+use Rattle.search.proofs.Laid.{Laid, laid_append}
 
 module _ {count : ℕ} {letters rests children_r children_s wholes target : List ℕ} {n : ℕ} {lent : Lent}
     (tabulated : Tabulated count letters rests children_r children_s wholes target n lent) where
@@ -50,7 +50,7 @@ module _ {count : ℕ} {letters rests children_r children_s wholes target : List
           exact = λ p q h k.
               subst (LeastLead gens n (word_at words p) (word_at words q)) (sym (laid.pair p q h k)) (tabulated.exact gens words posed p q h k);
           rows = lent.second;
-          path = path-same tabulated.rows counts laid.pair;
+          path = path_same tabulated.rows counts laid.pair;
           behind = laid.row;
         }
 
@@ -59,8 +59,8 @@ module _ {count : ℕ} {letters rests children_r children_s wholes target : List
     unfolding query
     last_weight posed =
         let q = query posed in
-        let root = node-number-at posed.tree 0 (omega (arith, root-inside q, posed.size)) in
-        row-weight q (length target) 0 (omega arith) (root-inside q)
+        let root = node_number_at posed.tree 0 (omega (arith, root_inside q, posed.size)) in
+        row_weight q (length target) 0 (omega arith) (root_inside q)
         ∙ ap (λ (p : ℕ). at lent.second (place count (length target) p)) root
         ∙ ap (at lent.second) (omega arith)
 
@@ -78,7 +78,7 @@ module _ {count : ℕ} {letters rests children_r children_s wholes target : List
     derivable posed within =
         let q = query posed in
         record {
-          some = row-some q (length target) 0 (omega arith) (root-inside q);
+          some = row_some q (length target) 0 (omega arith) (root_inside q);
           within = omega (arith, last_weight posed);
           attained = attained q;
         }
@@ -86,8 +86,8 @@ module _ {count : ℕ} {letters rests children_r children_s wholes target : List
     spelled_right : {gens words : List Word} {k : ℕ} {before after : List ℕ} → Query gens words n w → k ≤ n → Spells w (whole w) 0 k before after
         → MemberRight (plain gens) (word target) n (take k after) k
     spelled_right {gens} {k = k} {after = after} q within spells =
-        subst (MemberRight (plain gens) (word target) n (take k after)) (firsts-length (parts_in w) (weight_in w) spells.firsts ∙ spells.counts)
-        (derived-right q (take k after) spells.firsts (omega (arith, spells.counts)))
+        subst (MemberRight (plain gens) (word target) n (take k after)) (firsts_length (parts_in w) (weight_in w) spells.firsts ∙ spells.counts)
+        (derived_right q (take k after) spells.firsts (omega (arith, spells.counts)))
 
     pub written_answered : (written : Written) {second witness : List ℕ} → last_entry ≤ n
         → drop (used count (length target)) counts ≡ drop (used count (length target)) lent.first
@@ -111,7 +111,7 @@ module _ {count : ℕ} {letters rests children_r children_s wholes target : List
 
   pub none_answered : n < last_entry → Answered count letters rests children_r children_s wholes target n None lent lent
   none_answered above =
-      let laid = laid-append count (length target) lent.first lent.second (omega (arith, tabulated.room.first)) in
+      let laid = laid_append count (length target) lent.first lent.second (omega (arith, tabulated.room.first)) in
       record {
         answers = λ gens words posed. (none_right (query _ laid posed) (omega (arith, last_weight _ laid posed)), refl);
         first = refl;

@@ -15,7 +15,7 @@ use Rattle.words.specs.Word.{Word, nf, inverse}
 use Rattle.words.specs.Bytes.{word}
 use Rattle.products.specs.Product.{generators_from, generators, generator, inverses, with_inverses}
 use Rattle.products.proofs.Doubled.{doubled_length}
-use Rattle.products.proofs.Reducing.{reduced-generator}
+use Rattle.products.proofs.Reducing.{reduced_generator}
 use Rattle.lists.specs.Questions.{last_end}
 use Rattle.lists.specs.NormalList.{total, normal_bytes, normal_ends}
 use Rattle.lists.proofs.FirstOthers.{part_slice}
@@ -126,7 +126,7 @@ module _ (gens : List Word) (i : ℕ) (h : i < length gens) where
       ∙ ap (drop start) (sym (take-take end (total forms) held inverse_within) ∙ ap (take end) e)
       ∙ sym (ap₂ (λ (a b : ℕ). slice a b (normal_bytes forms)) starts_are ends_are))
       ∙ sym (word_between (normal_bytes forms) 0 (normal_ends 0 forms) i inside) ∙ ap (λ (g : List Word). generator g i) (normal_list forms)
-      ∙ reduced-generator forms i ∙ ap nf (get_or-map inverse gens i [])
+      ∙ reduced_generator forms i ∙ ap nf (get_or-map inverse gens i [])
     where
       zero_plus : (k : ℕ) → 0 + k ≡ k
       zero_plus k = omega arith

@@ -23,7 +23,7 @@ use Rattle.lists.specs.declared.Signed.{Signed}
 use Rattle.lists.specs.declared.Signed.TheVariants.{Lengths, Refused as Signed-as-Refused}
 use Rattle.lists.proofs.NormalList.{normal_bytes_length, normal_bytes_append, total_append}
 use Rattle.lists.proofs.ShortForms.{inverses_short, signed_short, total_short}
-use Rattle.lists.proofs.SignedList.{signed-passes, signed-given, signed_all, signed-bytes, signed-ends}
+use Rattle.lists.proofs.SignedList.{signed_passes, signed_given, signed_all, signed_bytes, signed_ends}
 use Rattle.queries.specs.Posing.{ReducedList}
 use Rattle.queries.proofs.ReducedList.{forms_reduced}
 use Rattle.subgroups.specs.Judging.{Doubled}
@@ -64,13 +64,13 @@ module _ (bytes ends before before_ends after after_ends : List ℕ) (r : Signed
   doubled = omega (arith, number, doubled_length gens)
 
   pub passes : question11 gens ≡ Passed
-  passes = signed-passes bytes ends before before_ends after after_ends r h checked room room_ends e
+  passes = signed_passes bytes ends before before_ends after after_ends r h checked room room_ends e
 
   short : total (with_inverses gens) ≤ most_of_signed_list
   short = signed_short gens (omega (arith, number)) passes
 
   given_is : given.0 ≡ total gens
-  given_is = signed-given bytes ends before before_ends after after_ends r h checked room room_ends e
+  given_is = signed_given bytes ends before before_ends after after_ends r h checked room room_ends e
 
   all_is : all.0 ≡ total (with_inverses gens)
   all_is = signed_all bytes ends before before_ends after after_ends r h checked room room_ends e
@@ -84,10 +84,10 @@ module _ (bytes ends before before_ends after after_ends : List ℕ) (r : Signed
 
   -- what stands there
   letters_there : take all.0 after ≡ normal_bytes (with_inverses gens)
-  letters_there = signed-bytes bytes ends before before_ends after after_ends r h checked room room_ends e
+  letters_there = signed_bytes bytes ends before before_ends after after_ends r h checked room room_ends e
 
   ends_there : take (2 * length ends) after_ends ≡ normal_ends 0 (with_inverses gens)
-  ends_there = ap (λ (k : ℕ). take k after_ends) doubled ∙ signed-ends bytes ends before before_ends after after_ends r h checked room room_ends e
+  ends_there = ap (λ (k : ℕ). take k after_ends) doubled ∙ signed_ends bytes ends before before_ends after after_ends r h checked room room_ends e
 
   abbrev letters : List ℕ
   letters = take all.0 after
@@ -119,4 +119,4 @@ module _ (bytes ends before before_ends after after_ends : List ℕ) (r : Signed
 
   pub ends_doubled : DoubledEnds gens after_ends (length ends) given.0
   ends_doubled =
-      record { ends_are = signed-ends bytes ends before before_ends after after_ends r h checked room room_ends e; counts = sym number; letters = given_is }
+      record { ends_are = signed_ends bytes ends before before_ends after after_ends r h checked room room_ends e; counts = sym number; letters = given_is }

@@ -30,11 +30,11 @@ use Rattle.lists.specs.declared.Signed.TheVariants.{Refused as Signed-as-Refused
 use Rattle.lists.proofs.Passing.{ListPassed, list_passed}
 use Rattle.lists.proofs.Rising.{rising_of}
 use Rattle.lists.proofs.ShortForms.{inverses_short, total_short}
-use Rattle.lists.proofs.SignedList.{signed-too-long}
+use Rattle.lists.proofs.SignedList.{signed_too_long}
 use Rattle.subgroups.specs.Questions.{of_factor}
 use Rattle.subgroups.specs.Parts.{nothing, given_part, inverse_part, factor_part, part_by, part_of, IsPart, PartShown, Shows}
 use Rattle.subgroups.specs.declared.Part.{Part}
-use Rattle.subgroups.proofs.FactorParts.{given-rises, given-within, given-spells, inverse-rises, inverse-within, inverse-spells}
+use Rattle.subgroups.proofs.FactorParts.{given_rises, given_within, given_spells, inverse_rises, inverse_within, inverse_spells}
 
 -- ---- the part that a number names
 
@@ -77,7 +77,7 @@ module _ (bytes ends : List ℕ) (room number : ℕ) where
           nothing_shown
           (passed_first (of_list bytes ends []) behind checked
           ∙ refused_first (question11 gens) (question14 inverses_slice room ∷ [])
-          (signed-too-long bytes ends before before_ends after after_ends r h checked enough enough_ends e))
+          (signed_too_long bytes ends before before_ends after after_ends r h checked enough enough_ends e))
       by (Refused other) refused = nothing_shown (refused_first (of_list bytes ends []) behind refused)
 
   -- ---- what it says that they have passed
@@ -127,8 +127,8 @@ module _ (bytes ends : List ℕ) (room number : ℕ) where
           elim (dec_lt number inverse_mark) [
             | yes h ↦ subst Inside (sym (factor_given gens ends number h)) (elim (dec_lt number (length ends)) [
               | yes k ↦ rw (lt-ltb number (length ends) k) (
-                given-rises bytes ends rising right.last number k,
-                given-within bytes ends rising right.last number k,
+                given_rises bytes ends rising right.last number k,
+                given_within bytes ends rising right.last number k,
               )
               | no k ↦ rw (le-ltb number (length ends) (omega arith)) (omega arith, omega arith)
             ])
@@ -137,8 +137,8 @@ module _ (bytes ends : List ℕ) (room number : ℕ) where
                   let i = number - inverse_mark in
                   let here : i < length gens = omega (arith, generators_length bytes 0 ends) in
                   rw (lt-ltb (number - inverse_mark) (length ends) k) (
-                    inverse-rises gens i here,
-                    omega (arith, inverse-within gens i here, slice_room passed),
+                    inverse_rises gens i here,
+                    omega (arith, inverse_within gens i here, slice_room passed),
                   )
               | no k ↦ rw (le-ltb (number - inverse_mark) (length ends) (omega arith)) (omega arith, omega arith)
             ])
@@ -160,12 +160,12 @@ shows given slice r ends number shown =
           let right = list_right given.now ends room number passed in
           let is : PartShown r given slice (given_part ends number) =
           subst (PartShown r given slice) (shown_given given.now ends room number passed k inside) shown in
-          ap word is.holds ∙ given-spells given.now ends (rising_of 0 ends right.none_falls) right.last number inside;
+          ap word is.holds ∙ given_spells given.now ends (rising_of 0 ends right.none_falls) right.last number inside;
       spells_inverse = λ passed i h e held.
           let inside : i < length ends = omega (arith, generators_length given.now 0 ends) in
           let is : PartShown r given slice (inverse_part (generators given.now ends) i) =
           subst (PartShown r given slice) (shown_inverse given.now ends room number passed i e inside) shown in
-          ap word is.holds ∙ inverse-spells (generators given.now ends) i h slice.now held;
+          ap word is.holds ∙ inverse_spells (generators given.now ends) i h slice.now held;
     }
   where
     room : ℕ

@@ -11,11 +11,11 @@ use lib.ListN.{length, take, drop, get_or, set, length-map, length-take, drop_of
 use lib.Seq.{length-take-le, take-suc, take_all, take_at, drop_at, get_or-append-add, get_or-drop}
 use Rattle.refusals.specs.Telling.{pick}
 use Rattle.slices.specs.Slices.{overwritten}
-use Rattle.slices.proofs.Slices.{front-stored}
+use Rattle.slices.proofs.Slices.{front_stored}
 use Rattle.words.specs.Word.{Word}
 use Rattle.products.specs.Product.{Factor, Each, plain, signed, inverse_mark, with_inverses, NoneRight, MemberRight}
 use Rattle.products.specs.Doubled.{signed_number}
-use Rattle.products.proofs.Doubled.{doubled_length, signed-none-of, signed-member-of}
+use Rattle.products.proofs.Doubled.{doubled_length, signed_none_of, signed_member_of}
 use Rattle.engine.specs.Calls.{VerdictRight}
 use Rattle.engine.specs.declared.Verdict.{Verdict}
 use Rattle.engine.specs.declared.Verdict.TheVariants.{Member, None, Refused}
@@ -41,7 +41,7 @@ module _ (f : ℕ → ℕ) (old : List ℕ) where
 
   pub mapped_more : (i : ℕ) → i < length old → set (mapped i) i (f (get_or old i 0)) ≡ mapped (i + 1)
   mapped_more i h =
-      front-stored (map f (take i old)) old i (front_length i (omega arith)) (f (get_or old i 0)) h
+      front_stored (map f (take i old)) old i (front_length i (omega arith)) (f (get_or old i 0)) h
       ∙ ap (λ (l : List ℕ). overwritten l old)
       (sym (ap (map f) (ap (λ (k : ℕ). take k old) (add-one i) ∙ take-suc old i 0 h) ∙ map-append f (take i old) (get_or old i 0 ∷ [])))
 
@@ -89,8 +89,8 @@ module _ (gens : List Word) (few : length gens ≤ inverse_mark) (target : Word)
       let long : length (map (signed_byte (length gens)) found) ≡ k = length-map found (signed_byte (length gens)) ∙ length-take-le k middle inside in
       let same = map_on (Factor (with_inverses gens)) (signed_place gens few) found right.rival.series in
       rw front (
-        rw (take_at (map (signed_byte (length gens)) found) (drop k middle) k long, same) (signed-member-of gens few target n found k right),
+        rw (take_at (map (signed_byte (length gens)) found) (drop k middle) k long, same) (signed_member_of gens few target n found k right),
         rw (drop_at (map (signed_byte (length gens)) found) (drop k middle) k long) rest,
       )
-  verdict_signed None before middle (right, same) = (signed-none-of gens few target n right, same)
+  verdict_signed None before middle (right, same) = (signed_none_of gens few target n right, same)
   verdict_signed (Refused refusal) before middle right = right

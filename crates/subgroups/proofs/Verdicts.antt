@@ -22,7 +22,7 @@ use Rattle.engine.proofs.GivenList.{given_right}
 use Rattle.subgroups.specs.Calls.{SignedJudged}
 use Rattle.subgroups.specs.Signing.{signed_factors}
 use Rattle.subgroups.specs.Judging.{InverseForms, sizes_asked, JudgesSizes}
-use Rattle.subgroups.proofs.SignedFactors.{verdict-signed}
+use Rattle.subgroups.proofs.SignedFactors.{verdict_signed}
 use Rattle.subgroups.proofs.Sizes.{signed_sizes_passed}
 
 module _ (gens : List Word) (target : Word) (n : ℕ) where
@@ -55,7 +55,7 @@ module _ (gens : List Word) (target : Word) (n : ℕ) where
       signed_judged {asked = Passed} {other = sizes_asked gens target n before slice} r before after slice slice' (sym e)
       (record {
         judged = (
-          subst (VerdictRight (signed gens) target n r before.witness) (sym signs) (verdict-signed gens (omega arith) target n r before.witness middle.witness places),
+          subst (VerdictRight (signed gens) target n r before.witness) (sym signs) (verdict_signed gens (omega arith) target n r before.witness middle.witness places),
           f ∙ first,
           s ∙ second,
         );

@@ -7,13 +7,13 @@ use lib.ListN.{length, get_or-eq_default}
 use Rattle.words.specs.Word.{Letter, R, S, Word}
 use Rattle.products.specs.Product.{generator, Factor}
 use Rattle.products.specs.State.{State}
-use Rattle.products.proofs.States.{state-tail}
+use Rattle.products.proofs.States.{state_tail}
 use Rattle.products.proofs.Tables.{Closed}
 use Rattle.trees.specs.Tree.{at, word_at, Tree}
 use Rattle.levels.specs.Levels.{entry}
 use Rattle.tables.specs.Rules.{place, Rule, Is, B, C, D, E, F, G}
 use Rattle.tables.specs.Levelling.{Full}
-use Rattle.trees.proofs.Nodes.{node_number, node-number-at, state-number, begins-letter}
+use Rattle.trees.proofs.Nodes.{node_number, node_number_at, state_number, begins_letter}
 
 module _ {gens words : List Word} {letters rests children_r children_s wholes : List ℕ} (tree : Tree gens words letters rests children_r children_s wholes) where
   -- the node of a word
@@ -21,18 +21,18 @@ module _ {gens words : List Word} {letters rests children_r children_s wholes : 
   at_word q = node_number words q
 
   word_inside : (q : Word) → State gens q → at_word q < length words
-  word_inside q s = (state-number tree q s).0
+  word_inside q s = (state_number tree q s).0
 
   -- the number of a word whose node is known
   number_of : (p : ℕ) (q : Word) → p < length words → word_at words p ≡ q → p ≡ at_word q
-  number_of p q inside same = sym (node-number-at tree p inside) ∙ ap at_word same
+  number_of p q inside same = sym (node_number_at tree p inside) ∙ ap at_word same
 
   -- the node of a word with a letter in front, and its rest
   word_front : (a : Letter) (x : Word) → State gens (a ∷ x)
       → Is (length words) letters rests a (at_word (a ∷ x)) × (at rests (at_word (a ∷ x)) ≡ at_word x)
   word_front a x s =
-      let (inside, same) = state-number tree (a ∷ x) s in
-      let (positive, spelled, rest) = begins-letter tree a (at_word (a ∷ x)) inside x same in
+      let (inside, same) = state_number tree (a ∷ x) s in
+      let (positive, spelled, rest) = begins_letter tree a (at_word (a ∷ x)) inside x same in
       ((positive, inside, spelled), number_of (at rests (at_word (a ∷ x))) x (omega (arith, tree.shape.rest_earlier (at_word (a ∷ x)) positive inside)) rest)
 
   -- the place of a pair of words
@@ -53,7 +53,7 @@ module _ {gens words : List Word} {letters rests children_r children_s wholes : 
   rule_c : (x q : Word) → State gens (S ∷ S ∷ x) → State gens (S ∷ q) → OnWords (at_pair x (S ∷ q)) past (at_pair (S ∷ S ∷ x) q)
   rule_c x q s t =
       let (a, ra) = word_front S (S ∷ x) s in
-      let (m, rm) = word_front S x (state-tail gens s) in
+      let (m, rm) = word_front S x (state_tail gens s) in
       let (b, rb) = word_front S q t in
       rw (← rm, ← ra, ← rb) (C _ _ a (rw ra m) b)
 
@@ -61,7 +61,7 @@ module _ {gens words : List Word} {letters rests children_r children_s wholes : 
   rule_d x q s t =
       let (a, ra) = word_front S x s in
       let (b, rb) = word_front S (S ∷ q) t in
-      let (m, rm) = word_front S q (state-tail gens t) in
+      let (m, rm) = word_front S q (state_tail gens t) in
       rw (← ra, ← rm, ← rb) (D _ _ a b (rw rb m))
 
   rule_e : (x v q : Word) → State gens (S ∷ x) → State gens (S ∷ v) → State gens (S ∷ q)

@@ -9,7 +9,7 @@ use Rattle.words.specs.Word.{Word}
 use Rattle.words.proofs.Reduced.{reduced_of_normal}
 use Rattle.products.specs.Product.{generator}
 use Rattle.products.specs.State.{AllNormal, LeastBy}
-use Rattle.products.proofs.Tables.{table-least}
+use Rattle.products.proofs.Tables.{table_least}
 use Rattle.limits.specs.Limits.{most_factors}
 use Rattle.trees.specs.Tree.{most_of_entry, word_at, Shape, Tree}
 use Rattle.levels.specs.Levels.{entry}
@@ -18,9 +18,9 @@ use Rattle.tables.specs.Nodes.{Followed, Linked}
 use Rattle.tables.specs.Levelling.{Full}
 use Rattle.tables.specs.Filling.{Fits}
 use Rattle.tables.proofs.Places.{place_inside}
-use Rattle.trees.proofs.Nodes.{node-number-at, child-r-node, child-s-node, child-r-found, child-s-found}
+use Rattle.trees.proofs.Nodes.{node_number_at, child_r_node, child_s_node, child_r_found, child_s_found}
 use Rattle.tables.proofs.Sound.{pair_led}
-use Rattle.tables.proofs.Complete.{words-closed, entry_at}
+use Rattle.tables.proofs.Complete.{words_closed, entry_at}
 
 module _ {count : ℕ} {letters rests children_r children_s wholes : List ℕ} where
   pub shape_followed : Shape count letters rests children_r children_s wholes → Followed count letters rests children_r × Followed count letters rests children_s
@@ -48,11 +48,11 @@ module _ {gens words : List Word} {letters rests children_r children_s wholes : 
       record {
         r = record {
           followed = followed_r;
-          agree = λ p inside. record { child = child-r-node tree p inside; rest = λ positive spelled. child-r-found tree p positive inside spelled };
+          agree = λ p inside. record { child = child_r_node tree p inside; rest = λ positive spelled. child_r_found tree p positive inside spelled };
         };
         s = record {
           followed = followed_s;
-          agree = λ p inside. record { child = child-s-node tree p inside; rest = λ positive spelled. child-s-found tree p positive inside spelled };
+          agree = λ p inside. record { child = child_s_node tree p inside; rest = λ positive spelled. child_s_found tree p positive inside spelled };
         };
       }
 
@@ -79,8 +79,8 @@ module _ {gens words : List Word} {letters rests children_r children_s wholes : 
             let led = pair_led tree weight weight_append row column (full.made (place (length words) p q) (omega (arith, full.bounded.long)) small) in
             (led.by, led.some, led.leads, led.weighs);
         least = λ r some leads small.
-            rw (node-number-at tree p row, node-number-at tree q column) at
-            (table-least gens weight weight_append n (entry_at tree full)
+            rw (node_number_at tree p row, node_number_at tree q column) at
+            (table_least gens weight weight_append n (entry_at tree full)
             (λ j factor. reduced_of_normal (generator gens j) (normal j factor))
-            (words-closed tree full) (word_at words p) (word_at words q) (tree.state p row) (tree.state q column) r some leads small);
+            (words_closed tree full) (word_at words p) (word_at words q) (tree.state p row) (tree.state q column) r some leads small);
       }

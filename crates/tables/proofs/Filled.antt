@@ -16,7 +16,7 @@ use Rattle.tables.specs.Rules.{place}
 use Rattle.tables.specs.Levelling.{Full}
 use Rattle.tables.specs.Filling.{Fits, Filled, Fills}
 use Rattle.tables.proofs.Places.{place_inside}
-use Rattle.tables.proofs.Exact.{full-exact}
+use Rattle.tables.proofs.Exact.{full_exact}
 
 module _ (weight : List ℕ → ℕ) (weight_append : (a b : List ℕ) → weight (a ++ b) ≡ weight a + weight b)
     {count : ℕ} {letters rests children_r children_s wholes : List ℕ} where
@@ -40,7 +40,7 @@ module _ (weight : List ℕ → ℕ) (weight_append : (a b : List ℕ) → weigh
           (λ full p q row column.
           let inside : place (length words) p q < length words * length words = place_inside row column in
           rw (get_or-append part (drop (count * count) before) 0 (place (length words) p q) (omega (arith, full.bounded.long)))
-          (full-exact tree weight weight_append normal full p q row column))
+          (full_exact tree weight weight_append normal full p q row column))
 
 pub table_filled : {weight : List ℕ → ℕ} {count : ℕ} {letters rests children_r children_s wholes : List ℕ} {n : ℕ} {before : List ℕ} (r : Bool) {after : List ℕ}
     → Fills weight count letters rests children_r children_s wholes n before r after → Fits count letters rests children_r children_s wholes n before

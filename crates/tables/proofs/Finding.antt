@@ -5,7 +5,7 @@ use Prim.Native.Nat.{ℕ, ◌≤◌, ◌<◌}
 use native.Mathlib.Omega.{arith}
 use Rattle.trees.specs.Tree.{at}
 use Rattle.levels.specs.Levels.{Uses, Relaxed}
-use Rattle.levels.proofs.Relaxing.{relaxed-none, relaxed-same}
+use Rattle.levels.proofs.Relaxing.{relaxed_none, relaxed_same}
 use Rattle.tables.specs.Nodes.{Finds, Noted, Begins, Front, Followed, LinkedBy}
 use Rattle.tables.specs.Relaxing.{Inside, Joins, Through}
 
@@ -56,7 +56,7 @@ module _ {count : ℕ} where
   pub joined : {P Q : ℕ → Type 0} {Y : ℕ → ℕ → Uses} {a b k : ℕ} {t t' : List ℕ} → Finds count P a → Finds count Q b
       → Relaxed k (Inside count a b Y) t t' → Relaxed k (Joins count P Q Y) t t'
   joined {P} {Q} {Y} {a} {b} left right relaxed =
-      relaxed-same
+      relaxed_same
       (λ q c y within. (a, b, y.0, y.1, left.found y.0, right.found y.1, y.2))
       (λ q c j within.
       let row : j.0 ≡ a = left.only j.0 j.2 j.4 in
@@ -69,4 +69,4 @@ module _ {count : ℕ} where
 
   -- where there is no node to join, nothing is to be relaxed
   pub none_joined : {P Q : ℕ → Type 0} {Y : ℕ → ℕ → Uses} {k : ℕ} {t : List ℕ} → ((p : ℕ) → p < count → P p → ⊥) → Relaxed k (Joins count P Q Y) t t
-  none_joined none = relaxed-none (λ q c joins. none joins.0 joins.2 joins.4)
+  none_joined none = relaxed_none (λ q c joins. none joins.0 joins.2 joins.4)

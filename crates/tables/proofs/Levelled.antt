@@ -10,12 +10,12 @@ use Rattle.products.specs.Product.{measure}
 use Rattle.trees.specs.Tree.{at}
 use Rattle.levels.specs.Levels.{entry, Relaxed}
 use Rattle.levels.specs.Passes.{Counts, Sound, Passed, NoneBetween}
-use Rattle.levels.proofs.Passing.{counts_bounded, pass-begins, next_level, closed_above}
+use Rattle.levels.proofs.Passing.{counts_bounded, pass_begins, next_level, closed_above}
 use Rattle.tables.specs.Rules.{place, Rule}
 use Rattle.tables.specs.Nodes.{RestsEarlier, AllBelow}
 use Rattle.tables.specs.Levelling.{Visited, Passes, NextLevel, Starts, Made, whole, Full}
-use Rattle.tables.proofs.Forward.{rules-forward}
-use Rattle.tables.proofs.Visiting.{passes-falls, visited-falls, passes-counts, passes-passed, passes-sound}
+use Rattle.tables.proofs.Forward.{rules_forward}
+use Rattle.tables.proofs.Visiting.{passes_falls, visited_falls, passes_counts, passes_passed, passes_sound}
 use Rattle.tables.proofs.Making.{made_step, started}
 
 -- The pass at level k is about to begin: the passes of all lower levels are done.
@@ -33,7 +33,7 @@ module _ (count : ℕ) (letters rests wholes : List ℕ) (earlier : RestsEarlier
       record {
         counts = begun.counts;
         starts = begun.starts;
-        passed = pass-begins (rules-forward count letters rests earlier) begun.counts;
+        passed = pass_begins (rules_forward count letters rests earlier) begun.counts;
         made = begun.sound;
       }
 
@@ -42,17 +42,17 @@ module _ (count : ℕ) (letters rests wholes : List ℕ) (earlier : RestsEarlier
   levelled_more {k} {next} {t} {t'} positive small levelled passes after =
       record {
         counts = counts;
-        starts = λ j below. omega (arith, levelled.starts j below, passes-falls visited-falls passes (place count 0 (at wholes j)));
+        starts = λ j below. omega (arith, levelled.starts j below, passes_falls visited_falls passes (place count 0 (at wholes j)));
         passed =
             next_level counts positive (subst (λ (N : ℕ). NoneBetween N t' k next) counts.long after.none_between)
-            (passes-passed (rules-forward count letters rests earlier) positive levelled.counts passes levelled.passed);
+            (passes_passed (rules_forward count letters rests earlier) positive levelled.counts passes levelled.passed);
         made =
-            passes-sound (rules-forward count letters rests earlier) positive (Made count letters rests wholes measure) (made_step count letters rests wholes measure) small
+            passes_sound (rules_forward count letters rests earlier) positive (Made count letters rests wholes measure) (made_step count letters rests wholes measure) small
             levelled.counts (le_refl _) passes levelled.made;
       }
     where
       counts : Counts n (count * count) t'
-      counts = passes-counts levelled.counts positive passes
+      counts = passes_counts levelled.counts positive passes
 
   pub levelled_full : {k : ℕ} {t : List ℕ} → n < k → Levelled count letters rests wholes n k t → Full count letters rests wholes measure n t
   levelled_full above levelled =

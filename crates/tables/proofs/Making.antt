@@ -9,7 +9,7 @@ use lib.ListN.{length, replicate, length-replicate, get_or-replicate, get_or-eq_
 use Rattle.trees.specs.Tree.{at}
 use Rattle.levels.specs.Levels.{entry, Relaxed}
 use Rattle.levels.specs.Passes.{Counts, Sound, Premise, led, missing}
-use Rattle.levels.proofs.Relaxing.{lowers-sound}
+use Rattle.levels.proofs.Relaxing.{lowers_sound}
 use Rattle.levels.proofs.Passing.{counts_relaxed}
 use Rattle.tables.specs.Rules.{place, Rule}
 use Rattle.tables.specs.Nodes.{AllBelow}
@@ -50,7 +50,7 @@ module _ (count : ℕ) (wholes : List ℕ) (Led : ℕ → ℕ → Type 0) (n : �
                   (omega (arith, clear.long, place_inside {x = 0} some (inside j below))),
               get_or-eq_default t 0 {n = count * count} (omega (arith, clear.long)),
             );
-        sound = lowers-sound Led n leads relaxed.lowers none_yet;
+        sound = lowers_sound Led n leads relaxed.lowers none_yet;
       }
     where
       clear : Counts n (count * count) t

@@ -8,7 +8,7 @@ use Rattle.words.specs.Word.{Letter, R, S}
 use Rattle.words.specs.Bytes.{byte}
 use Rattle.trees.specs.Tree.{at}
 use Rattle.levels.specs.Levels.{Uses, Relaxed, Using, first, second}
-use Rattle.levels.proofs.Relaxing.{relaxed-then, relaxed-same}
+use Rattle.levels.proofs.Relaxing.{relaxed_then, relaxed_same}
 use Rattle.tables.specs.Rules.{place, Rule, Is, B, C, D, E, F, G}
 use Rattle.tables.specs.Nodes.{Front, RestsEarlier}
 use Rattle.tables.specs.Relaxing.{One, Joins, UsesF, UsesR, UsesS, UsesE}
@@ -165,4 +165,4 @@ module _ (count : ℕ) (letters rests : List ℕ) (earlier : RestsEarlier rests 
     pub pair_relaxed : {k : ℕ} {t t' t'' t''' t'''' : List ℕ} → Relaxed k (UsesF count x y) t t' → Relaxed k (UsesR count letters rests x y) t' t''
         → Relaxed k (UsesS count letters rests x y) t'' t''' → Relaxed k (UsesE count letters rests x y) t''' t'''' → Relaxed k (Using Rules (place count x y)) t t''''
     pair_relaxed f r s e =
-        relaxed-same (λ q c uses within. code_uses q c uses) (λ q c uses within. rule_uses q c uses) (relaxed-then (relaxed-then (relaxed-then f r) s) e)
+        relaxed_same (λ q c uses within. code_uses q c uses) (λ q c uses within. rule_uses q c uses) (relaxed_then (relaxed_then (relaxed_then f r) s) e)

@@ -13,9 +13,9 @@ use Rattle.trees.specs.Tree.{at, word_at, Tree}
 use Rattle.tables.specs.Rules.{place, Rule, B, C, D, E, F, G}
 use Rattle.tables.specs.Levelling.{Made, whole, one, two}
 use Rattle.tables.proofs.Places.{place_inside, same_row, same_column}
-use Rattle.tables.proofs.Forward.{rules-forward}
-use Rattle.trees.proofs.Nodes.{is-letter}
-use Rattle.tables.proofs.Leading.{leads-as, leads-b, leads-c, leads-d, leads-e}
+use Rattle.tables.proofs.Forward.{rules_forward}
+use Rattle.trees.proofs.Nodes.{is_letter}
+use Rattle.tables.proofs.Leading.{leads_as, leads_b, leads_c, leads_d, leads_e}
 
 module _ {gens words : List Word} {letters rests children_r children_s wholes : List ℕ} (tree : Tree gens words letters rests children_r children_s wholes)
     (weight : List ℕ → ℕ) (weight_append : (a b : List ℕ) → weight (a ++ b) ≡ weight a + weight b) where
@@ -59,19 +59,19 @@ module _ {gens words : List Word} {letters rests children_r children_s wholes : 
   made_one : {p q c v : ℕ} → Rule (length words) letters rests p q c → length words * length words ≤ q → LedAt p v → LedAt c v
   made_one (B a b (a0, a1, a2) (b0, b1, b2)) past led =
       led_at a1 (rest_inside b b0 b1)
-      (kept (λ r l. leads-as gens (sym (is-letter tree R a a0 a1 a2)) refl (leads-b gens (leads-as gens refl (is-letter tree R b b0 b1 b2) l)))
+      (kept (λ r l. leads_as gens (sym (is_letter tree R a a0 a1 a2)) refl (leads_b gens (leads_as gens refl (is_letter tree R b b0 b1 b2) l)))
       (led (at rests a) b (rest_inside a a0 a1) b1 refl))
   made_one (C a b (a0, a1, a2) (m0, m1, m2) (b0, b1, b2)) past led =
       led_at a1 (rest_inside b b0 b1)
       (kept
-      (λ r l. leads-as gens (sym (is-letter tree S a a0 a1 a2 ∙ ap (λ (u : Word). S ∷ u) (is-letter tree S (at rests a) m0 m1 m2))) refl
-      (leads-c gens (leads-as gens refl (is-letter tree S b b0 b1 b2) l)))
+      (λ r l. leads_as gens (sym (is_letter tree S a a0 a1 a2 ∙ ap (λ (u : Word). S ∷ u) (is_letter tree S (at rests a) m0 m1 m2))) refl
+      (leads_c gens (leads_as gens refl (is_letter tree S b b0 b1 b2) l)))
       (led (at rests (at rests a)) b (rest_inside (at rests a) m0 m1) b1 refl))
   made_one (D a b (a0, a1, a2) (b0, b1, b2) (m0, m1, m2)) past led =
       led_at a1 (rest_inside (at rests b) m0 m1)
       (kept
-      (λ r l. leads-as gens (sym (is-letter tree S a a0 a1 a2)) refl
-      (leads-d gens (leads-as gens refl (is-letter tree S b b0 b1 b2 ∙ ap (λ (u : Word). S ∷ u) (is-letter tree S (at rests b) m0 m1 m2)) l)))
+      (λ r l. leads_as gens (sym (is_letter tree S a a0 a1 a2)) refl
+      (leads_d gens (leads_as gens refl (is_letter tree S b b0 b1 b2 ∙ ap (λ (u : Word). S ∷ u) (is_letter tree S (at rests b) m0 m1 m2)) l)))
       (led (at rests a) b (rest_inside a a0 a1) b1 refl))
   made_one (E a v b r (m0, m1, m2) (b0, b1, b2)) past led =
       let inside : place (length words) (at rests v) b < length words * length words = place_inside (rest_inside v m0 m1) b1 in absurd (omega arith)
@@ -79,7 +79,7 @@ module _ {gens words : List Word} {letters rests children_r children_s wholes : 
       let inside : place (length words) v j < length words * length words = place_inside m s in absurd (omega arith)
   made_one (G x a b (a0, a1, a2) (b0, b1, b2)) past led =
       led_at a1 b1
-      (kept (λ r l. leads-as gens (sym (is-letter tree x a a0 a1 a2)) (sym (is-letter tree x b b0 b1 b2)) (leads_behind gens (x ∷ []) l))
+      (kept (λ r l. leads_as gens (sym (is_letter tree x a a0 a1 a2)) (sym (is_letter tree x b b0 b1 b2)) (leads_behind gens (x ∷ []) l))
       (led (at rests a) (at rests b) (rest_inside a a0 a1) (rest_inside b b0 b1) refl))
 
   made_two : {p q c v v' : ℕ} → Rule (length words) letters rests p q c → q < length words * length words → LedAt p v → LedAt q v' → LedAt c (v + v')
@@ -89,8 +89,8 @@ module _ {gens words : List Word} {letters rests children_r children_s wholes : 
   made_two (E a v b (a0, a1, a2) (v0, v1, v2) (b0, b1, b2)) inside led led' =
       led_at a1 (rest_inside b b0 b1)
       (joined
-      (λ r s l m. leads-as gens (sym (is-letter tree S a a0 a1 a2)) refl
-      (leads-e gens (leads-as gens refl (is-letter tree S v v0 v1 v2) l) (leads-as gens refl (is-letter tree S b b0 b1 b2) m)))
+      (λ r s l m. leads_as gens (sym (is_letter tree S a a0 a1 a2)) refl
+      (leads_e gens (leads_as gens refl (is_letter tree S v v0 v1 v2) l) (leads_as gens refl (is_letter tree S b b0 b1 b2) m)))
       (led (at rests a) v (rest_inside a a0 a1) v1 refl) (led' (at rests v) b (rest_inside v v0 v1) b1 refl))
   made_two (F u v j r m s) inside led led' =
       led_at r s (joined (λ a b l l'. leads_append gens l l') (led u v r m refl) (led' v j m s refl))
@@ -98,8 +98,8 @@ module _ {gens words : List Word} {letters rests children_r children_s wholes : 
 
   made_inside : {z v : ℕ} → Made (length words) letters rests wholes weight z v → z < length words * length words
   made_inside (whole j below) = place_inside {x = 0} tree.shape.some (tree.shape.whole_inside j below)
-  made_inside (one {p} {q} {c} rule past made) = ((rules-forward (length words) letters rests tree.shape.rest_earlier).inside p q c rule).2
-  made_inside (two {p} {q} {c} rule made other) = ((rules-forward (length words) letters rests tree.shape.rest_earlier).inside p q c rule).2
+  made_inside (one {p} {q} {c} rule past made) = ((rules_forward (length words) letters rests tree.shape.rest_earlier).inside p q c rule).2
+  made_inside (two {p} {q} {c} rule made other) = ((rules_forward (length words) letters rests tree.shape.rest_earlier).inside p q c rule).2
 
   -- rule A: generator j leads from nothing to its own node
   whole_led : (j : ℕ) → j < length wholes → Led (word_at words 0) (word_at words (at wholes j)) (weight (j ∷ []))
@@ -108,7 +108,7 @@ module _ {gens words : List Word} {letters rests children_r children_s wholes : 
       record {
         by = j ∷ [];
         some = λ none. nil≢cons (sym none);
-        leads = leads-as gens (sym tree.root) (sym (tree.whole j factor)) (step_leads gens (A j factor));
+        leads = leads_as gens (sym tree.root) (sym (tree.whole j factor)) (step_leads gens (A j factor));
         weighs = refl;
       }
 

@@ -8,7 +8,7 @@ use Rattle.limits.specs.Limits.{most_factors}
 use Rattle.trees.specs.Tree.{most_of_entry}
 use Rattle.levels.specs.Levels.{entry, Uses, Relaxed}
 use Rattle.levels.specs.Passes.{Only, Upto, Bounded}
-use Rattle.levels.proofs.Relaxing.{relaxed-already, relaxed-same, relaxed-none}
+use Rattle.levels.proofs.Relaxing.{relaxed_already, relaxed_same, relaxed_none}
 use Rattle.levels.proofs.Passing.{bounded_relaxed}
 use Rattle.tables.specs.Rules.{place}
 use Rattle.tables.specs.Nodes.{Finds}
@@ -47,7 +47,7 @@ relaxed_all {k} {t} {t'} Y i count end relaxed = subst (λ (j : ℕ). Relaxed k 
 -- F at a pair of one node twice: each entry is already at most k more than itself
 pub one_node_relaxed : {count x y k : ℕ} {t : List ℕ} → x ≡ y → Relaxed k (UsesF count x y) t t
 one_node_relaxed {count} {x} {y} {k} {t} e =
-    relaxed-already
+    relaxed_already
     (λ q c either within. elim either [
       | inl turn ↦ low q c (turn.2.1 ∙ ap (λ (z : ℕ). place count z turn.0) e ∙ sym turn.2.0)
       | inr turn ↦ low q c (turn.2.1 ∙ ap (place count turn.0) (sym e) ∙ sym turn.2.0)
@@ -60,10 +60,10 @@ one_node_relaxed {count} {x} {y} {k} {t} e =
 
 module _ {count a b k : ℕ} (Y : ℕ → ℕ → Uses) where
   pub inside_relaxed : {t t' : List ℕ} → a < count → b < count → Relaxed k (Y a b) t t' → Relaxed k (Inside count a b Y) t t'
-  inside_relaxed row column relaxed = relaxed-same (λ q c y within. (row, column, y)) (λ q c y within. y.2) relaxed
+  inside_relaxed row column relaxed = relaxed_same (λ q c y within. (row, column, y)) (λ q c y within. y.2) relaxed
 
   pub outside_relaxed : {t : List ℕ} → (a < count → b < count → ⊥) → Relaxed k (Inside count a b Y) t t
-  outside_relaxed outside = relaxed-none (λ q c y. outside y.0 y.1)
+  outside_relaxed outside = relaxed_none (λ q c y. outside y.0 y.1)
 
 -- ---- where a node is found
 
@@ -73,5 +73,5 @@ AtFound count P Y q c = (s : ℕ) × (s < count) × P s × Y s q c
 module _ {count r : ℕ} {P : ℕ → Type 0} (Y : ℕ → Uses) (finds : Finds count P r) where
   pub found_relaxed : {k : ℕ} {t t' : List ℕ} → r < count → Relaxed k (Y r) t t' → Relaxed k (AtFound count P Y) t t'
   found_relaxed inside relaxed =
-      relaxed-same (λ q c y within. (r, inside, finds.found inside, y))
+      relaxed_same (λ q c y within. (r, inside, finds.found inside, y))
       (λ q c y within. subst (λ (s : ℕ). Y s q c) (finds.only y.0 y.1 y.2) y.3) relaxed

@@ -11,12 +11,12 @@ use lib.ListN.{length}
 use Rattle.limits.specs.Limits.{most_factors}
 use Rattle.levels.specs.Levels.{entry, Rules}
 use Rattle.levels.specs.Passes.{Bounded, Counts, Sound, Premise, Forward, Passed}
-use Rattle.levels.proofs.Relaxing.{lowers-falls, relaxed-already}
-use Rattle.levels.proofs.Passing.{bounded_relaxed, counts_relaxed, pass_skips, pass-relaxes, pass-sound}
+use Rattle.levels.proofs.Relaxing.{lowers_falls, relaxed_already}
+use Rattle.levels.proofs.Passing.{bounded_relaxed, counts_relaxed, pass_skips, pass_relaxes, pass_sound}
 use Rattle.tables.specs.Rules.{place, next_pair}
 use Rattle.tables.specs.Relaxing.{Ready}
 use Rattle.tables.specs.Levelling.{Visited, relaxed, skipped, Passes, begin, visit}
-use Rattle.tables.proofs.Places.{next-stands}
+use Rattle.tables.proofs.Places.{next_stands}
 use Rattle.tables.proofs.Steps.{ready_bounded}
 
 -- ---- whatever a visit does
@@ -54,7 +54,7 @@ module _ {Visits : ℕ → List ℕ → List ℕ → Type 0} where
       → from ≤ place width row column → ((m : ℕ) → from ≤ m → m < place width row column → Visits m t' t') → Visits (place width row column) t' t''
       → Passes Visits from t t' → Passes Visits (place width p q) t t''
   passes_next width row column p q {t = t} {t'' = t''} below is later same last run =
-      subst (λ (z : ℕ). Passes Visits z t t'') (sym (next-stands width row column below is).1) (visit (passes_over later same run) last)
+      subst (λ (z : ℕ). Passes Visits z t t'') (sym (next_stands width row column below is).1) (visit (passes_over later same run) last)
 
 -- ---- at a level
 
@@ -68,7 +68,7 @@ module _ {Rule : Rules} {k : ℕ} where
   visited_bounded z t t' (skipped other same) bounded = rw same bounded
 
   pub visited_falls : (z : ℕ) (t t' : List ℕ) → Visited Rule k z t t' → (p : ℕ) → entry t' p ≤ entry t p
-  visited_falls z t t' (relaxed level run) p = lowers-falls run.lowers p
+  visited_falls z t t' (relaxed level run) p = lowers_falls run.lowers p
   visited_falls z t t' (skipped other same) p = rw same (le_refl _)
 
   pub passes_counts : {n N z : ℕ} {t t' : List ℕ} → Counts n N t → 1 ≤ k → Passes (Visited Rule k) z t t' → Counts n N t'
@@ -81,13 +81,13 @@ module _ {Rule : Rules} {k : ℕ} where
       visited_low : (m : ℕ) → Visited Rule k m t t
       visited_low m =
           elim (ℕ_discrete (entry t m) k) [
-            | yes level ↦ relaxed level (relaxed-already (λ q c uses within. omega (arith, low c within)))
+            | yes level ↦ relaxed level (relaxed_already (λ q c uses within. omega (arith, low c within)))
             | no other ↦ skipped other refl
           ]
 
   module _ {n N : ℕ} (rules : Forward Rule N) (positive : 1 ≤ k) where
     visited_passed : {z : ℕ} {t t' : List ℕ} → Counts n N t → Visited Rule k z t t' → Passed Rule t k z → Passed Rule t' k (z + 1)
-    visited_passed counts (relaxed level run) passed = pass-relaxes rules counts positive level run passed
+    visited_passed counts (relaxed level run) passed = pass_relaxes rules counts positive level run passed
     visited_passed counts (skipped other same) passed = rw same (pass_skips other passed)
 
     pub passes_passed : {z : ℕ} {t t' : List ℕ} → Counts n N t → Passes (Visited Rule k) z t t' → Passed Rule t k 0 → Passed Rule t' k z
@@ -96,7 +96,7 @@ module _ {Rule : Rules} {k : ℕ} where
 
     module _ (Led : ℕ → ℕ → Type 0) (leads : (p q c v v' : ℕ) → Rule p q c → Led p v → Premise Led N q v' → Led c (v + v')) (small : k ≤ n) where
       visited_sound : {z : ℕ} {t t' : List ℕ} → Counts n N t → z < N → Visited Rule k z t t' → Sound Led n t → Sound Led n t'
-      visited_sound counts inside (relaxed level run) sound = pass-sound rules counts positive level run Led n leads inside small sound
+      visited_sound counts inside (relaxed level run) sound = pass_sound rules counts positive level run Led n leads inside small sound
       visited_sound counts inside (skipped other same) sound = rw same sound
 
       pub passes_sound : {z : ℕ} {t t' : List ℕ} → Counts n N t → z ≤ N → Passes (Visited Rule k) z t t' → Sound Led n t → Sound Led n t'

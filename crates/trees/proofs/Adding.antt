@@ -10,7 +10,7 @@ use Rattle.words.specs.Bytes.{letter, byte}
 use Rattle.words.proofs.Bytes.{letter_byte}
 use Rattle.trees.specs.Tree.{at, word_at, Child}
 use Rattle.trees.specs.Growing.{node_slices, NodeWords, ChildrenBy, Grown, RoomFor}
-use Rattle.trees.proofs.Behind.{at_same, at_other, at_below, behind, behind-length, behind-old, behind-new, behind-each}
+use Rattle.trees.proofs.Behind.{at_same, at_other, at_below, behind, behind_length, behind_old, behind_new, behind_each}
 
 -- a letter is spelled by its byte, 82 or 83
 byte_spelled : (a : Letter) (y : ℕ) → y ≡ byte a → (y ≡ 82 → ⊥) → y ≡ 83
@@ -27,16 +27,16 @@ module _ {a b : Letter} (differ : a ≡ b → ⊥) (words : List Word) (letters 
   all = behind words (a ∷ word_at words p)
 
   one_more : length all ≡ length words + 1
-  one_more = behind-length words (a ∷ word_at words p)
+  one_more = behind_length words (a ∷ word_at words p)
 
   kept : (q : ℕ) → q < length words → word_at all q ≡ word_at words q
-  kept = behind-old words (a ∷ word_at words p)
+  kept = behind_old words (a ∷ word_at words p)
 
   last : word_at all (length words) ≡ a ∷ word_at words p
-  last = behind-new words (a ∷ word_at words p)
+  last = behind_new words (a ∷ word_at words p)
 
   each : (P : ℕ → Type 0) → ((q : ℕ) → q < length words → P q) → P (length words) → (q : ℕ) → q < length all → P q
-  each = behind-each words (a ∷ word_at words p)
+  each = behind_each words (a ∷ word_at words p)
 
   is_new : (q : ℕ) → q < length words → word_at words q ≡ a ∷ word_at words p → ⊥
   is_new q h e = (g.by_a.child p inside).nowhere missing q h e

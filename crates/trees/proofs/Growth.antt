@@ -11,10 +11,10 @@ use Rattle.words.specs.Bytes.{letter, byte, word}
 use Rattle.trees.specs.Tree.{at, word_at}
 use Rattle.trees.specs.Numbering.{with_word, with_suffixes}
 use Rattle.trees.specs.Growing.{NodeSlices, node_slices, Grown, RoomFor, Remains, Grew, Grows}
-use Rattle.trees.proofs.Behind.{behind-length, behind-new}
-use Rattle.trees.proofs.Numbering.{with-there, with-new}
-use Rattle.trees.proofs.Remaining.{remains_same, remains_more, remains-added}
-use Rattle.trees.proofs.Adding.{grown-more}
+use Rattle.trees.proofs.Behind.{behind_length, behind_new}
+use Rattle.trees.proofs.Numbering.{with_there, with_new}
+use Rattle.trees.proofs.Remaining.{remains_same, remains_more, remains_added}
+use Rattle.trees.proofs.Adding.{grown_more}
 
 -- ---- nothing is added
 
@@ -38,7 +38,7 @@ module _ {a b : Letter} (differ : a ≡ b → ⊥) (letters rests children other
             λ words e g.
             let child = g.by_a.inside p (omega arith) in
             let spells = (g.by_a.child p (omega arith)).there there in
-            rw (← e, with-there words (a ∷ word_at words p) (at children p) child spells)
+            rw (← e, with_there words (a ∷ word_at words p) (at children p) child spells)
             (stays words (node_slices letters rests children others) (a ∷ word_at words p) (at children p) g child spells);
       }
 
@@ -48,16 +48,16 @@ module _ {a b : Letter} (differ : a ≡ b → ⊥) (letters rests children other
       record {
         no_fewer = omega arith;
         few = le_refl (count + 1);
-        remains = remains-added letters rests children others count p y inside;
+        remains = remains_added letters rests children others count p y inside;
         grew =
             λ words e g.
             let w : Word = a ∷ word_at words p in
-            rw (← e, with-new words w ((g.by_a.child p (omega arith)).nowhere missing))
+            rw (← e, with_new words w ((g.by_a.child p (omega arith)).nowhere missing))
             (record {
-              counted = behind-length words w;
-              grown = grown-more differ words letters rests children others g p (omega arith) missing y is (rw e room);
-              inside = omega (arith, behind-length words w);
-              spells = behind-new words w;
+              counted = behind_length words w;
+              grown = grown_more differ words letters rests children others g p (omega arith) missing y is (rw e room);
+              inside = omega (arith, behind_length words w);
+              spells = behind_new words w;
             });
       }
 

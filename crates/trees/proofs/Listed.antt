@@ -19,9 +19,9 @@ use Rattle.trees.specs.Building.{Fits}
 use Rattle.trees.specs.Ends.{end_before}
 use Rattle.trees.specs.Growing.{NodeSlices, node_slices, NodeWords, ChildrenBy, Grown, RoomFor, Grows, Read}
 use Rattle.trees.proofs.Lists.{generators_length, generator_at}
-use Rattle.trees.proofs.Ends.{fits-ends, end-before-within, end_before_next}
+use Rattle.trees.proofs.Ends.{fits_ends, end_before_within, end_before_next}
 use Rattle.trees.proofs.Behind.{at_same, at_below}
-use Rattle.trees.proofs.Numbering.{suffixes-more, suffixes-kept, suffixes-new}
+use Rattle.trees.proofs.Numbering.{suffixes_more, suffixes_kept, suffixes_new}
 
 -- ---- node 0 alone
 
@@ -80,10 +80,10 @@ module _ (bytes ends : List ℕ) where
       (h : i < length ends) (t : Read bytes ends i count (node_slices letters rests children_r children_s) wholes)
       (from end : ℕ) (starts : from ≡ end_before ends i) (stops : end ≡ at ends i) where
     pub generator_rises : from ≤ end
-    generator_rises = omega (arith, (fits-ends f i h).rises)
+    generator_rises = omega (arith, (fits_ends f i h).rises)
 
     pub generator_within : end ≤ length bytes
-    generator_within = omega (arith, (fits-ends f i h).within)
+    generator_within = omega (arith, (fits_ends f i h).within)
 
     pub generator_room : RoomFor (count + (end - from)) (node_slices letters rests children_r children_s)
     generator_room =
@@ -111,8 +111,8 @@ module _ (bytes ends : List ℕ) where
     read_more {node = node} s =
         let w = word (slice from end bytes) in
         let all = with_suffixes t.words w in
-        let more = suffixes-more t.words w in
-        let kept = suffixes-kept t.words w in
+        let more = suffixes_more t.words w in
+        let kept = suffixes_kept t.words w in
         let m = s.grew t.words t.counted t.grown in
         let room : i < length wholes = omega (arith, f.room_wholes) in
         record {
@@ -124,7 +124,7 @@ module _ (bytes ends : List ℕ) where
               λ p z.
               elim (dec_lt p (length t.words)) [
                 | yes old ↦ rw (kept p old) (t.states p old)
-                | no new ↦ let (x, is) = suffixes-new t.words w p (omega arith) z in suffix i x (rw generators_length h) (whole_word ∙ is)
+                | no new ↦ let (x, is) = suffixes_new t.words w p (omega arith) z in suffix i x (rw generators_length h) (whole_word ∙ is)
               ];
           whole_inside =
               below_more
@@ -159,7 +159,7 @@ module _ (bytes ends : List ℕ) where
   module _ {letters rests children_r children_s wholes : List ℕ} (f : Fits bytes ends letters rests children_r children_s wholes)
       {count : ℕ} (t : Read bytes ends (length ends) count (node_slices letters rests children_r children_s) wholes) where
     pub few_nodes : count ≤ suc (length bytes)
-    few_nodes = omega (arith, t.few, end-before-within f (length ends) (le_refl (length ends)))
+    few_nodes = omega (arith, t.few, end_before_within f (length ends) (le_refl (length ends)))
 
     -- no generator is left, so these are all words
     all_words : t.words ≡ numbered (generators bytes ends)

@@ -11,7 +11,7 @@ use Rattle.words.specs.Word.{R, S, Word}
 use Rattle.refusals.specs.Telling.{pick}
 use Rattle.trees.specs.Tree.{word_at}
 use Rattle.trees.specs.Numbering.{same_word, has_word, with_word, with_suffixes}
-use Rattle.trees.proofs.Behind.{behind, behind-length, behind-old, behind-new}
+use Rattle.trees.proofs.Behind.{behind, behind_length, behind_old, behind_new}
 
 -- ---- the tests
 
@@ -57,17 +57,17 @@ module _ (words : List Word) (q : Word) where
 
   word_more : (t : Bool) → length words ≤ length (pick t words (behind words q))
   word_more true = le_refl (length words)
-  word_more false = omega (arith, behind-length words q)
+  word_more false = omega (arith, behind_length words q)
 
   word_kept : (t : Bool) (p : ℕ) → p < length words → word_at (pick t words (behind words q)) p ≡ word_at words p
   word_kept true p h = refl
-  word_kept false p h = behind-old words q p h
+  word_kept false p h = behind_old words q p h
 
   word_new : (t : Bool) (p : ℕ) → length words ≤ p → p < length (pick t words (behind words q)) → word_at (pick t words (behind words q)) p ≡ q
   word_new true p h k = absurd (omega arith)
   word_new false p h k =
-      let last : p ≡ length words = omega (arith, behind-length words q) in
-      ap (word_at (behind words q)) last ∙ behind-new words q
+      let last : p ≡ length words = omega (arith, behind_length words q) in
+      ap (word_at (behind words q)) last ∙ behind_new words q
 
 -- ---- the suffixes of a word
 

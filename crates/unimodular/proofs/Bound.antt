@@ -11,7 +11,7 @@ use Rattle.words.specs.Word.{R, S, Word, Normal}
 use Rattle.words.proofs.Reduced.{Reduced, reduced_tail, reduced_take, reduced_reverse, reduced_of_normal}
 use Rattle.unimodular.specs.Matrix.{Matrix, matrix_of}
 use Rattle.unimodular.proofs.LastPart.{back, matrix_of_back}
-use Rattle.unimodular.proofs.Descent.{size, size-times-r, size-times-s, size-times-ss}
+use Rattle.unimodular.proofs.Descent.{size, size_times_r, size_times_s, size_times_ss}
 
 -- how many S parts a word has, back to front
 abbrev parts : Word → ℕ
@@ -32,10 +32,10 @@ parts_length (S ∷ S ∷ S ∷ w) h = absurd h
 
 size_parts : (w : Word) → size (back w) ≤ 2 ^ suc (parts w)
 size_parts [] = omega arith
-size_parts (R ∷ w) = omega (arith, size-times-r (back w), size_parts w)
+size_parts (R ∷ w) = omega (arith, size_times_r (back w), size_parts w)
 size_parts (S ∷ []) = omega arith
-size_parts (S ∷ R ∷ w) = omega (arith, size-times-s (back (R ∷ w)), size-times-r (back w), size_parts w)
-size_parts (S ∷ S ∷ w) = omega (arith, size-times-ss (back w), size_parts w)
+size_parts (S ∷ R ∷ w) = omega (arith, size_times_s (back (R ∷ w)), size_times_r (back w), size_parts w)
+size_parts (S ∷ S ∷ w) = omega (arith, size_times_ss (back w), size_parts w)
 
 pub size_reduced : (n : ℕ) (w : Word) → Reduced w → length w ≤ 2 * n → size (matrix_of w) ≤ 2 ^ suc n
 size_reduced n w h l =

@@ -21,7 +21,7 @@ use Rattle.unimodular.proofs.Rows.{Opposite, nat_abs_first_larger, nat_abs_secon
 pub use Rattle.unimodular.proofs.Rows.{is_zero, negative, positive, signs_agree, at_least}
 unfoldable pub use Rattle.unimodular.proofs.Ending.{ending}
 pub use Rattle.unimodular.proofs.Ending.{is_unit, columns_agree, first_column_larger, ending_is_nothing, ending_is_r, ending_is_s, ending_is_ss, ending_sign}
-use Rattle.unimodular.proofs.Determinant.{no-first-column, no-second-column, diagonal_unit}
+use Rattle.unimodular.proofs.Determinant.{no_first_column, no_second_column, diagonal_unit}
 use Rattle.unimodular.proofs.Shape.{Shape, nothing, same, first, second, shape_of, shape_rr}
 use Rattle.unimodular.proofs.LastPart.{back, last, back_reverse, matrix_of_back, ending_word, nothing_of_ending}
 use Rattle.unimodular.proofs.Faithful.{normal_form_of_word, normal_form_sign}
@@ -166,8 +166,8 @@ module _ (m : Matrix) where
   smaller_before_shape : determinant m ≡ pos 1 → {k : ℕ} → Shape m k → 2 ≤ k → size (before k m) < size m
   smaller_before_shape e (nothing p q) l = absurd (omega arith)
   smaller_before_shape e (same p q n) l = absurd (omega arith)
-  smaller_before_shape e (first p q i j) l = omega (arith, size_first p q i j, sum_not_zero (nat_abs m.b) (nat_abs m.d) (no-second-column m e))
-  smaller_before_shape e (second p q i j) l = omega (arith, size_second p q i j, sum_not_zero (nat_abs m.a) (nat_abs m.c) (no-first-column m e))
+  smaller_before_shape e (first p q i j) l = omega (arith, size_first p q i j, sum_not_zero (nat_abs m.b) (nat_abs m.d) (no_second_column m e))
+  smaller_before_shape e (second p q i j) l = omega (arith, size_second p q i j, sum_not_zero (nat_abs m.a) (nat_abs m.c) (no_first_column m e))
 
   pub size_before : determinant m ≡ pos 1 → size (before (ending m) m) ≤ size m
   size_before e = size_before_shape (shape_of m e)

@@ -14,7 +14,7 @@ use Rattle.words.proofs.NormalForm.{nf_reduced, nf_normal, nf_of_normal, nf_of_e
 use Rattle.words.proofs.Inverse.{word_inverse, inverse_word, inverse_unique}
 use Rattle.unimodular.specs.Matrix.{Matrix, unit, times, UpToSign, matrix_of, NormalFormOf}
 use Rattle.unimodular.proofs.Product.{unit_times, sign_refl, sign_negated, sign_sym, sign_trans, sign_times, matrix_of_append}
-use Rattle.unimodular.proofs.Ending.{ending-is-nothing, ending_sign}
+use Rattle.unimodular.proofs.Ending.{ending_is_nothing, ending_sign}
 use Rattle.unimodular.proofs.LastPart.{nothing_of_ending}
 
 -- a word whose matrix is the unit matrix, put in anywhere, does not change the matrix
@@ -32,7 +32,7 @@ matrix_of_equal (back e) = sign_sym (matrix_of_equal e)
 matrix_of_equal (then e f) = sign_trans (matrix_of_equal e) (matrix_of_equal f)
 
 pub kernel : (w : Word) → Reduced w → UpToSign (matrix_of w) unit → w ≡ []
-kernel w h s = nothing_of_ending w h (ending_sign s ∙ ending-is-nothing unit refl)
+kernel w h s = nothing_of_ending w h (ending_sign s ∙ ending_is_nothing unit refl)
 
 pub equal_of_matrix : (u v : Word) → UpToSign (matrix_of u) (matrix_of v) → Equal u v
 equal_of_matrix u v s = inverse_unique (inverse v) u v (then (equal_nf w) (equal_path (kernel (nf w) (nf_reduced w) trivial))) (inverse_word v)

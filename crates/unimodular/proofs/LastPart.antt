@@ -11,7 +11,7 @@ use Rattle.words.proofs.Reduced.{Reduced, reduced_reverse}
 use Rattle.unimodular.specs.Matrix.{Matrix, unit, times, determinant, matrix_of_letter, matrix_of}
 use Rattle.unimodular.proofs.Product.{matrix_of_snoc, determinant_times_letter}
 use Rattle.unimodular.proofs.Ending.{ending}
-use Rattle.unimodular.proofs.Shape.{Shape, nothing, same_rows, shape-r, shape-s, shape-ss, ending-of-shape}
+use Rattle.unimodular.proofs.Shape.{Shape, nothing, same_rows, shape_r, shape_s, shape_ss, ending_of_shape}
 
 -- the matrix of a word that stands back to front
 abbrev pub back : Word → Matrix
@@ -42,17 +42,17 @@ last_s (S ∷ w) e = omega arith
 
 shape_back : (w : Word) → Reduced w → Shape (back w) (last w)
 shape_back [] h = nothing refl refl
-shape_back (R ∷ []) h = shape-r unit refl (nothing refl refl) (λ e. omega arith)
+shape_back (R ∷ []) h = shape_r unit refl (nothing refl refl) (λ e. omega arith)
 shape_back (R ∷ R ∷ w) h = absurd h
-shape_back (R ∷ S ∷ w) h = shape-r (back (S ∷ w)) (determinant_back (S ∷ w)) (shape_back (S ∷ w) h) (last_s w)
-shape_back (S ∷ []) h = shape-s unit (inl (refl, refl)) (inl (refl, refl))
-shape_back (S ∷ R ∷ w) h = let r = same_rows (back (R ∷ w)) (shape_back (R ∷ w) h) (omega arith) in shape-s (back (R ∷ w)) r.0 r.1
-shape_back (S ∷ S ∷ []) h = shape-ss unit (inl (refl, refl)) (inl (refl, refl))
-shape_back (S ∷ S ∷ R ∷ w) h = let r = same_rows (back (R ∷ w)) (shape_back (R ∷ w) h) (omega arith) in shape-ss (back (R ∷ w)) r.0 r.1
+shape_back (R ∷ S ∷ w) h = shape_r (back (S ∷ w)) (determinant_back (S ∷ w)) (shape_back (S ∷ w) h) (last_s w)
+shape_back (S ∷ []) h = shape_s unit (inl (refl, refl)) (inl (refl, refl))
+shape_back (S ∷ R ∷ w) h = let r = same_rows (back (R ∷ w)) (shape_back (R ∷ w) h) (omega arith) in shape_s (back (R ∷ w)) r.0 r.1
+shape_back (S ∷ S ∷ []) h = shape_ss unit (inl (refl, refl)) (inl (refl, refl))
+shape_back (S ∷ S ∷ R ∷ w) h = let r = same_rows (back (R ∷ w)) (shape_back (R ∷ w) h) (omega arith) in shape_ss (back (R ∷ w)) r.0 r.1
 shape_back (S ∷ S ∷ S ∷ w) h = absurd h
 
 pub ending_back : (w : Word) → Reduced w → ending (back w) ≡ last w
-ending_back w h = ending-of-shape (back w) (determinant_back w) (shape_back w h)
+ending_back w h = ending_of_shape (back w) (determinant_back w) (shape_back w h)
 
 pub matrix_of_back : (w : Word) → matrix_of w ≡ back (reverse w)
 matrix_of_back w = ap matrix_of (sym (reverse-reverse w)) ∙ back_reverse (reverse w)

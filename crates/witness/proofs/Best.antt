@@ -22,11 +22,11 @@ use Rattle.tables.specs.Rules.{place}
 use Rattle.derivations.specs.Derivations.{Alone, Tight, Candidate, Joins, chosen}
 use Rattle.derivations.specs.Ways.{World, parts_in, weight_in, ways}
 use Rattle.derivations.specs.declared.Parts.{Parts}
-use Rattle.derivations.proofs.Series.{joins-length, same_length_compare}
-use Rattle.derivations.proofs.Ways.{no-more-ways}
+use Rattle.derivations.proofs.Series.{joins_length, same_length_compare}
+use Rattle.derivations.proofs.Ways.{no_more_ways}
 use Rattle.witness.specs.Choices.{Chosen}
 use Rattle.witness.specs.Choosing.{Choosable, TellsBefore, Leads, BestBelow, Undecided, Tried, Foremost, BestOfAll}
-use Rattle.witness.proofs.Candidates.{ways_few, way-joined}
+use Rattle.witness.proofs.Candidates.{ways_few, way_joined}
 
 -- the stacks may change
 pub choosable_on : {w : World} {choices xs ys us vs : List ℕ} {x y : ℕ} {xs₁ ys₁ us₁ vs₁ : List ℕ} → Choosable w choices xs ys us vs x y
@@ -67,7 +67,7 @@ module _ {w : World} {choices xs ys us vs : List ℕ} {x y : ℕ} (k : Choosable
 
   module _ (d : ℕ) (c : IsCandidate w x y d) where
     mine : (r : List ℕ) × IsSeries w x y d r
-    mine = way-joined k d c
+    mine = way_joined k d c
 
     -- the way d leads where its series is no later than those of the candidates before it
     leads_now : ((e : ℕ) → e < d → IsCandidate w x y e → Beaten w x y mine.0 e) → BestBelow w x y (d + 1) (suc d)
@@ -103,8 +103,8 @@ module _ {w : World} {choices xs ys us vs : List ℕ} {x y : ℕ} (k : Choosable
         behind : r ≡ false → NoLater best_lead.series mine.0
         behind e =
             let lead = best_lead in
-            let long = joins-length (parts_in w) (weight_in w) (parts_in w x y (best - 1)) x y lead.joins lead.candidate.tight in
-            let as_long = joins-length (parts_in w) (weight_in w) (parts_in w x y d) x y mine.1 c.tight in
+            let long = joins_length (parts_in w) (weight_in w) (parts_in w x y (best - 1)) x y lead.joins lead.candidate.tight in
+            let as_long = joins_length (parts_in w) (weight_in w) (parts_in w x y d) x y mine.1 c.tight in
             elim (same_length_compare lead.series mine.0 (long ∙ sym as_long)) [
               | inl n ↦ n
               | inr earlier ↦ absurd (told_not r e (tells mine.0 lead.series mine.1 lead.joins) earlier)
@@ -191,7 +191,7 @@ module _ {w : World} {choices xs ys us vs : List ℕ} {x y : ℕ} (k : Choosable
     looked_through best d ended within found = by best found
       where
         below : (e : ℕ) → IsTight w x y e → e < d
-        below e t = elim (dec_lt e d) [ yes l ↦ l | no l ↦ absurd (no-more-ways w x y e k.item.0 (omega arith) t) ]
+        below e t = elim (dec_lt e d) [ yes l ↦ l | no l ↦ absurd (no_more_ways w x y e k.item.0 (omega arith) t) ]
 
         by : (best : ℕ) → BestBelow w x y best d → BestOfAll w x y best
         by zero none = λ e t. none e (below e t) t

@@ -18,11 +18,11 @@ use Rattle.derivations.specs.Derivations.{Tight, Candidate, Firsts, Joins, facto
 use Rattle.derivations.specs.Ways.{World, parts_in, weight_in, ways}
 use Rattle.derivations.specs.declared.Parts.{Parts}
 use Rattle.derivations.specs.declared.Parts.TheVariants.{One, Two, Nothing}
-use Rattle.derivations.proofs.Ways.{factor-weight}
+use Rattle.derivations.proofs.Ways.{factor_weight}
 use Rattle.witness.specs.Choices.{choice_at, Small, Done, PartsDone, AllSettled}
 use Rattle.witness.specs.Stacks.{stacked, items_of, Entries, Spelled, none, Ready, Standing}
 use Rattle.witness.specs.Choosing.{Choosable}
-use Rattle.witness.proofs.Parted.{parts-weigh, parts-ready, parts-entries, parts-few, parts_join}
+use Rattle.witness.proofs.Parted.{parts_weigh, parts_ready, parts_entries, parts_few, parts_join}
 
 -- ---- how many ways there are
 
@@ -41,7 +41,7 @@ ways_few {w} small x =
 
 module _ (w : World) (choice : ℕ → ℕ → ℕ) (settled : AllSettled w choice) where
   done_firsts : (a b : ℕ) → 1 ≤ weight_in w a b → Done w choice a b → (r : List ℕ) × Firsts (parts_in w) (weight_in w) a b r
-  done_firsts zero b h done = (b ∷ [], factor (factor-weight w b h).0)
+  done_firsts zero b h done = (b ∷ [], factor (factor_weight w b h).0)
   done_firsts (suc p) b h (inl e) = absurd (omega arith)
   done_firsts (suc p) b h (inr coded) = let s = settled (suc p) b (omega arith, h) coded in (s.series, s.firsts)
 
@@ -73,8 +73,8 @@ module _ {w : World} {choices xs ys us vs : List ℕ} {x y : ℕ} (k : Choosable
     pub way_pushable : (m n : ℕ) → most_factors ≤ m → most_factors ≤ n
         → (0 + length (items_of ps) ≤ m) × (0 + length (items_of ps) ≤ n) × Entries (items_of ps)
     way_pushable m n room_x room_y =
-        let few : length (items_of ps) ≤ most_factors = omega (arith, parts-few w x y ps tight_parts, k.light) in
-        (omega arith, omega arith, parts-entries w x y k.small ps tight_parts)
+        let few : length (items_of ps) ≤ most_factors = omega (arith, parts_few w x y ps tight_parts, k.light) in
+        (omega arith, omega arith, parts_entries w x y k.small ps tight_parts)
 
     pub way_standing : (xs ys : List ℕ) (height : ℕ) → most_factors ≤ length xs → most_factors ≤ length ys → stacked xs ys height ≡ items_of ps ++ []
         → Standing w choice xs ys height
@@ -82,8 +82,8 @@ module _ {w : World} {choices xs ys us vs : List ℕ} {x y : ℕ} (k : Choosable
         record {
           room_x = room_x;
           room_y = room_y;
-          ready = subst (Ready w choice) (sym e) (parts-ready w x y [] choice ps tight_parts done_parts tt);
-          light = rw e (omega (arith, parts-weigh w x y [] ps tight_parts, k.light));
+          ready = subst (Ready w choice) (sym e) (parts_ready w x y [] choice ps tight_parts done_parts tt);
+          light = rw e (omega (arith, parts_weigh w x y [] ps tight_parts, k.light));
         }
 
     pub way_spelled : (items : List (ℕ × ℕ)) (r : List ℕ) → items ≡ items_of ps ++ [] → Joins (parts_in w) (weight_in w) (parts_in w x y d) r

@@ -18,8 +18,8 @@ use Rattle.witness.specs.Choices.{marked, choice_at, Coded, Item, Small}
 use Rattle.witness.specs.Due.{DueAt, StandsAt}
 use Rattle.witness.specs.Sweeping.{swept, Above, MarkState, unwanted, pending, closed, Marking}
 use Rattle.witness.specs.Sweeping.{ChoiceState, untouched, ahead, Choosing, Stuck, ChoosingOr, ChoosesTo}
-use Rattle.witness.proofs.Places.{item-swept, stands-item, keeps-none, keeps_then, whole_item}
-use Rattle.witness.proofs.ItemChoices.{choosing-moves, choosing-passes, wanted-coded}
+use Rattle.witness.proofs.Places.{item_swept, stands_item, keeps_none, keeps_then, whole_item}
+use Rattle.witness.proofs.ItemChoices.{choosing_moves, choosing_passes, wanted_coded}
 
 module _ (w : World) where
   -- ---- where the sweep stands
@@ -27,7 +27,7 @@ module _ (w : World) where
   -- what is due there is an item of that weight, and marked
   module _ (choices : List ℕ) (k p x y : ℕ) (stands : StandsAt w.count p x y) (due : DueAt marked k choices w.counts p) where
     pub due_item : Small w choices → 1 ≤ k → p < swept w → Item w x y × (weight_in w x y ≡ k)
-    due_item small some inside = stands-item w k p x y small some (omega arith) stands due.1
+    due_item small some inside = stands_item w k p x y small some (omega arith) stands due.1
 
     pub due_marked : choice_at w.count choices x y ≡ marked
     due_marked = ap (at choices) stands.is ∙ due.0
@@ -35,7 +35,7 @@ module _ (w : World) where
   -- where nothing is due the sweep goes on to the next place
   pub choosing_steps : {choices : List ℕ} (k p : ℕ) → (DueAt marked k choices w.counts p → ⊥) → Choosing w k p choices → Choosing w k (p + 1) choices
   choosing_steps {choices} k p none =
-      choosing-passes w k p (p + 1) (λ (q, from, before, due). none (subst (DueAt marked k choices w.counts) (omega arith) due))
+      choosing_passes w k p (p + 1) (λ (q, from, before, due). none (subst (DueAt marked k choices w.counts) (omega arith) due))
 
   -- where the sweep stands at the first place, all that weighs no less is ahead
   above_first : (k a b : ℕ) → k ≤ weight_in w a b → Above w k 0 a b
@@ -60,7 +60,7 @@ module _ (w : World) where
   stuck_more k m more stuck = λ n within attained. stuck n (omega arith) attained
 
   pub chooses_none : {choices : List ℕ} (most k p : ℕ) → Choosing w k p choices → ChoosesTo w most k p choices true choices
-  chooses_none most k p choosing = record { keeps = keeps-none w; choosing = choosing }
+  chooses_none most k p choosing = record { keeps = keeps_none w; choosing = choosing }
 
   -- the sweep goes on, or stops
   module _ {most k p k' p' few : ℕ} {before between after : List ℕ} (r : Bool) (so_far : ChoosesTo w most k p before true between)
@@ -83,11 +83,11 @@ module _ (w : World) where
 
   -- no item stands behind the last place
   pub weight_leaves : {choices : List ℕ} (k : ℕ) → Choosing w k (swept w) choices → Choosing w (k + 1) 0 choices
-  weight_leaves {choices} k choosing = choosing-moves w (k + 1) 0 moves choosing
+  weight_leaves {choices} k choosing = choosing_moves w (k + 1) 0 moves choosing
     where
       moves : (a b : ℕ) → Item w a b → choice_at w.count choices a b ≡ marked → Above w k (swept w) a b → Above w (k + 1) 0 a b
       moves a b item is (inl heavier) = above_first (k + 1) a b (omega arith)
-      moves a b item is (inr (same, behind)) = absurd (omega (arith, item-swept w a b item))
+      moves a b item is (inr (same, behind)) = absurd (omega (arith, item_swept w a b item))
 
   -- ---- where the sweep ends
 
@@ -98,4 +98,4 @@ module _ (w : World) where
   pub choosing_ends : {choices : List ℕ} (k : ℕ) → weight_in w (whole w) 0 ≡ k → Choosing w (k + 1) 0 choices
       → Coded (choice_at w.count choices (whole w) 0)
   choosing_ends k weighs choosing =
-      wanted-coded w (whole w) 0 (lighter_passed k (whole w) 0 weighs) choosing.root (choosing.states (whole w) 0 (whole_item w (whole w) refl choosing.item))
+      wanted_coded w (whole w) 0 (lighter_passed k (whole w) 0 weighs) choosing.root (choosing.states (whole w) 0 (whole_item w (whole w) refl choosing.item))

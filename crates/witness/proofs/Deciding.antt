@@ -23,9 +23,9 @@ use Rattle.products.proofs.Order.{before_behind}
 use Rattle.trees.specs.Tree.{at}
 use Rattle.derivations.specs.Derivations.{Firsts, factor, chosen}
 use Rattle.derivations.specs.Ways.{World, parts_in, weight_in, highest}
-use Rattle.derivations.proofs.Series.{firsts-unique}
+use Rattle.derivations.proofs.Series.{firsts_unique}
 use Rattle.derivations.proofs.Steps.{steps_some}
-use Rattle.witness.specs.Stacks.{stacked, weightOf, stepsLeft, none, more, Ready, Standing, TakenApart}
+use Rattle.witness.specs.Stacks.{stacked, weight_of, steps_left, none, more, Ready, Standing, TakenApart}
 use Rattle.witness.specs.Comparing.{Answers, TopsTell, GoingOn, GoesOn, Compares}
 use Rattle.witness.specs.declared.comparing.Compared.{Compared}
 use Rattle.witness.specs.declared.comparing.Compared.TheVariants.{On, Over}
@@ -85,7 +85,7 @@ module _ (w : World) where
 
   same_dropped : (x y : ℕ) (is js : List (ℕ × ℕ)) (b : Bool) → Answers w is js b → Answers w ((x, y) ∷ is) ((x, y) ∷ js) b
   same_dropped x y is js b answers r s (more {r = p} {s = r'} f spelled) (more {r = q} {s = s'} g spelled') =
-      rw (← firsts-unique (parts_in w) (weight_in w) f g) (tells_same b (before_behind p) (before_rest p) (answers r' s' spelled spelled'))
+      rw (← firsts_unique (parts_in w) (weight_in w) f g) (tells_same b (before_behind p) (before_rest p) (answers r' s' spelled spelled'))
 
   -- ---- a stack without its top
 
@@ -100,10 +100,10 @@ module _ (w : World) where
           room_x = standing.room_x;
           room_y = standing.room_y;
           ready = ready.2;
-          light = omega (arith, ap (weightOf w) on_top, standing.light);
+          light = omega (arith, ap (weight_of w) on_top, standing.light);
         }
 
-    rest_falls : stepsLeft w (stacked xs ys (height - 1)) < stepsLeft w (stacked xs ys height)
+    rest_falls : steps_left w (stacked xs ys (height - 1)) < steps_left w (stacked xs ys height)
     rest_falls = rw on_top (omega (arith, steps_some (highest w) (weight_in w x y) x ready.0))
 
 -- ---- the stacks
@@ -159,8 +159,8 @@ module _ {w : World} {choice : ℕ → ℕ → ℕ} {xs ys us vs : List ℕ} {he
         record { first = on.first; second = on.second; same = λ t answers. so_far.same t (on.same t answers) }
 
     pub step_falls : (a b : ℕ) → compared ≡ On a b
-        → stepsLeft w (stacked xs₂ ys₂ a) + stepsLeft w (stacked us₂ vs₂ b)
-        < stepsLeft w (stacked xs₁ ys₁ height₁) + stepsLeft w (stacked us₁ vs₁ other₁)
+        → steps_left w (stacked xs₂ ys₂ a) + steps_left w (stacked us₂ vs₂ b)
+        < steps_left w (stacked xs₁ ys₁ height₁) + steps_left w (stacked us₁ vs₁ other₁)
     step_falls a b e = (step_on a b e).falls
 
     pub answers_over : (t : Bool) → compared ≡ Over t → Answers w (stacked xs ys height) (stacked us vs other) t

@@ -15,10 +15,10 @@ use Rattle.limits.specs.Limits.{most_factors}
 use Rattle.trees.specs.Tree.{at}
 use Rattle.derivations.specs.Derivations.{Firsts, factor, chosen}
 use Rattle.derivations.specs.Ways.{World, parts_in, weight_in}
-use Rattle.derivations.proofs.Series.{firsts-length}
-use Rattle.derivations.proofs.Ways.{factor-weight}
+use Rattle.derivations.proofs.Series.{firsts_length}
+use Rattle.derivations.proofs.Ways.{factor_weight}
 use Rattle.witness.specs.Choices.{Done, Small}
-use Rattle.witness.specs.Stacks.{stacked, weightOf, stepsLeft, Spelled, none, more, Ready, Standing, TakenApart}
+use Rattle.witness.specs.Stacks.{stacked, weight_of, steps_left, Spelled, none, more, Ready, Standing, TakenApart}
 use Rattle.witness.specs.Spelling.{Halfway, Further}
 use Rattle.witness.specs.Witness.{Spells}
 use Rattle.witness.proofs.Stacked.{stacked_top}
@@ -49,7 +49,7 @@ module _ (w : World) (choice : ℕ → ℕ → ℕ) where
         rest = r;
         spelled = rw e (subst (Spelled w ((x, y) ∷ [])) (append-nil r) (more f none));
         series = refl;
-        room = omega (arith, firsts-length (parts_in w) (weight_in w) f, room);
+        room = omega (arith, firsts_length (parts_in w) (weight_in w) f, room);
         within = omega arith;
         behind = refl;
       }
@@ -59,7 +59,7 @@ module _ (w : World) (choice : ℕ → ℕ → ℕ) where
   halfway_done x y old r xs ys witness height written f low half =
       record {
         firsts = subst (Firsts (parts_in w) (weight_in w) x y) (sym all) f;
-        counts = omega (arith, firsts-length (parts_in w) (weight_in w) f, ap length all, length-take-le written witness half.within);
+        counts = omega (arith, firsts_length (parts_in w) (weight_in w) f, ap length all, length-take-le written witness half.within);
         within = half.within;
         rest = half.behind;
       }
@@ -106,11 +106,11 @@ module _ (w : World) (choice : ℕ → ℕ → ℕ) where
       ready = subst (Ready w choice) on_top standing.ready
 
       weighs_one : (weight_in w 0 j ≡ 1) × (j < length w.wholes)
-      weighs_one = factor-weight w j ready.0
+      weighs_one = factor_weight w j ready.0
 
       standing_below : Standing w choice xs ys (height - 1)
       standing_below =
-          let light : weightOf w ((0, j) ∷ below) ≤ most_factors = subst (λ (is : List (ℕ × ℕ)). weightOf w is ≤ most_factors) on_top standing.light in
+          let light : weight_of w ((0, j) ∷ below) ≤ most_factors = subst (λ (is : List (ℕ × ℕ)). weight_of w is ≤ most_factors) on_top standing.light in
           record {
             room_x = standing.room_x;
             room_y = standing.room_y;
@@ -118,7 +118,7 @@ module _ (w : World) (choice : ℕ → ℕ → ℕ) where
             light = omega arith;
           }
 
-      falls_below : stepsLeft w below < stepsLeft w (stacked xs ys height)
+      falls_below : steps_left w below < steps_left w (stacked xs ys height)
       falls_below = rw (on_top, weighs_one.0) (omega arith)
 
     module _ {old r : List ℕ} (half : Halfway w choice old r xs ys witness height written) where

@@ -19,9 +19,9 @@ use Rattle.witness.specs.Choices.{marked, choice_at, Coded, cells, Item, Done, P
 use Rattle.witness.specs.Marking.{Wanted, PartsWanted, Closed, Keeps}
 use Rattle.witness.specs.Due.{SomeDue}
 use Rattle.witness.specs.Sweeping.{place_of, Above, ChoiceState, untouched, ahead, settled, Choosing, Stuck, ChoosesTo}
-use Rattle.witness.proofs.Places.{Same, same_or_other, of_same, item-weight, same_place, choice-stored, choice-elsewhere, keeps-none, keeps-stored, whole_item}
-use Rattle.witness.proofs.Lowering.{PartLower, PartsLower, tight-lower, lower-not-above}
-use Rattle.witness.proofs.Marks.{More, closed-more}
+use Rattle.witness.proofs.Places.{Same, same_or_other, of_same, item_weight, same_place, choice_stored, choice_elsewhere, keeps_none, keeps_stored, whole_item}
+use Rattle.witness.proofs.Lowering.{PartLower, PartsLower, tight_lower, lower_not_above}
+use Rattle.witness.proofs.Marks.{More, closed_more}
 
 module _ (w : World) where
   -- ---- where the sweep stands
@@ -46,7 +46,7 @@ module _ (w : World) where
       moves a b item is (inl heavier) = inl heavier
       moves a b item is (inr (weighs, behind)) =
           elim (dec_lt (place_of w a b) p') [
-            | yes before ↦ absurd (none (place_of w a b, behind, before, (is, sym (item-weight w a b item) ∙ weighs)))
+            | yes before ↦ absurd (none (place_of w a b, behind, before, (is, sym (item_weight w a b item) ∙ weighs)))
             | no past ↦ inr (weighs, omega arith)
           ]
 
@@ -81,7 +81,7 @@ module _ (w : World) where
         elim (dec_lt 0 a) [
           | yes first ↦
               let (item, less) = lower first in
-              inr (wanted_coded a b (λ above. lower-not-above w x y k a b item weighs less (subst (λ (m : ℕ). Above w k m a b) (sym stands) above)) some
+              inr (wanted_coded a b (λ above. lower_not_above w x y k a b item weighs less (subst (λ (m : ℕ). Above w k m a b) (sym stands) above)) some
               (choosing.states a b item))
           | no first ↦ inl (omega arith)
         ]
@@ -94,7 +94,7 @@ module _ (w : World) where
     pub choosing_done : Item w x y → choice_at w.count choices x y ≡ marked → CandidatesDone w (choice_at w.count choices) x y
     choosing_done item is =
         λ d candidate.
-        parts_done (parts_in w x y d) (tight-lower w x y (parts_in w x y d) candidate.tight)
+        parts_done (parts_in w x y d) (tight_lower w x y (parts_in w x y d) candidate.tight)
         (marked_closed x y is (choosing.states x y item) d candidate)
 
   -- ---- one item
@@ -111,7 +111,7 @@ module _ (w : World) where
     parts_done_more Nothing lower done = done
 
     tight_done_more : (ps : Parts) → Tight (weight_in w) x y ps → PartsDone w choice ps → PartsDone w choice' ps
-    tight_done_more ps tight = parts_done_more ps (tight-lower w x y ps tight)
+    tight_done_more ps tight = parts_done_more ps (tight_lower w x y ps tight)
 
     settled_more : choice' x y ≡ choice x y → Settled w choice x y → Settled w choice' x y
     settled_more same settles =
@@ -130,7 +130,7 @@ module _ (w : World) where
       (stands : place_of w x y ≡ p) (is : choice_at w.count before x y ≡ marked) (chosen : Chosen w x y before after) where
     here : choice_at w.count after x y ≡ suc chosen.way
     here =
-        subst (λ (l : List ℕ). choice_at w.count l x y ≡ suc chosen.way) (sym chosen.written) (choice-stored w before x y (suc chosen.way) room item)
+        subst (λ (l : List ℕ). choice_at w.count l x y ≡ suc chosen.way) (sym chosen.written) (choice_stored w before x y (suc chosen.way) room item)
 
     here_coded : Coded (choice_at w.count after x y)
     here_coded = (omega (arith, here), omega (arith, here, chosen.few))
@@ -138,7 +138,7 @@ module _ (w : World) where
     elsewhere : (a b : ℕ) → Item w a b → (Same x y a b → ⊥) → choice_at w.count after a b ≡ choice_at w.count before a b
     elsewhere a b other differ =
         subst (λ (l : List ℕ). choice_at w.count l a b ≡ choice_at w.count before a b) (sym chosen.written)
-        (choice-elsewhere w before x y (suc chosen.way) a b item other differ)
+        (choice_elsewhere w before x y (suc chosen.way) a b item other differ)
 
     coded_more : (a b : ℕ) → Item w a b → Coded (choice_at w.count before a b) → Coded (choice_at w.count after a b)
     coded_more a b other coded =
@@ -166,14 +166,14 @@ module _ (w : World) where
     state_elsewhere : (a b : ℕ) → Item w a b → (Same x y a b → ⊥) → ChoiceState w k p before a b → ChoiceState w k (p + 1) after a b
     state_elsewhere a b other differ (untouched none) = untouched (elsewhere a b other differ ∙ none)
     state_elsewhere a b other differ (ahead same closes above) =
-        ahead (elsewhere a b other differ ∙ same) (closed-more w (choice_at w.count before) (choice_at w.count after) chosen_more a b closes)
+        ahead (elsewhere a b other differ ∙ same) (closed_more w (choice_at w.count before) (choice_at w.count after) chosen_more a b closes)
         (above_next a b other differ above)
     state_elsewhere a b other differ (settled coded settles) =
         settled (coded_more a b other coded)
         (settled_more (choice_at w.count before) (choice_at w.count after) coded_more a b (elsewhere a b other differ) settles)
 
     chosen_keeps : Keeps w before after
-    chosen_keeps = subst (Keeps w before) (sym chosen.written) (keeps-stored w before x y (suc chosen.way) item)
+    chosen_keeps = subst (Keeps w before) (sym chosen.written) (keeps_stored w before x y (suc chosen.way) item)
 
     choosing_chooses : Choosing w k p before → Choosing w k (p + 1) after
     choosing_chooses choosing =
@@ -214,4 +214,4 @@ module _ (w : World) where
         choosing = choosing_chooses before k p x y room item weighs stands is chosen choosing;
       }
   chooses_one before k p x y false room item weighs stands is (none, same) choosing =
-      record { keeps = subst (Keeps w before) (sym same) (keeps-none w); choosing = choosing_stuck k x y item weighs none }
+      record { keeps = subst (Keeps w before) (sym same) (keeps_none w); choosing = choosing_stuck k x y item weighs none }

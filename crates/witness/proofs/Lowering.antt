@@ -10,7 +10,7 @@ use Rattle.derivations.specs.declared.Parts.TheVariants.{One, Two, Nothing}
 use Rattle.witness.specs.Choices.{Item}
 use Rattle.witness.specs.Marking.{Lower}
 use Rattle.witness.specs.Sweeping.{place_of, Below, Above}
-use Rattle.witness.proofs.Places.{lower-place}
+use Rattle.witness.proofs.Places.{lower_place}
 
 module _ (w : World) (x y : ℕ) where
   -- what is asked of each part: if it is no factor, it is an item, and lower
@@ -33,10 +33,10 @@ module _ (w : World) (x y : ℕ) where
   -- what is lower than an item is yet to come where a sweep goes down, and is not where it goes up
   pub lower_below : (k a b : ℕ) → Item w a b → weight_in w x y ≡ k → Lower w x y a b → Below w k (place_of w x y) a b
   lower_below k a b item weighs (inl lighter) = inl (omega arith)
-  lower_below k a b item weighs (inr (same, first)) = inr (omega arith, lower-place w x y a b first item)
+  lower_below k a b item weighs (inr (same, first)) = inr (omega arith, lower_place w x y a b first item)
 
   pub lower_not_above : (k a b : ℕ) → Item w a b → weight_in w x y ≡ k → Lower w x y a b → Above w k (place_of w x y) a b → ⊥
   lower_not_above k a b item weighs (inl lighter) (inl heavier) = omega arith
   lower_not_above k a b item weighs (inl lighter) (inr (same, behind)) = omega arith
   lower_not_above k a b item weighs (inr (same, first)) (inl heavier) = omega arith
-  lower_not_above k a b item weighs (inr (same, first)) (inr (same', behind)) = omega (arith, lower-place w x y a b first item)
+  lower_not_above k a b item weighs (inr (same, first)) (inr (same', behind)) = omega (arith, lower_place w x y a b first item)

@@ -23,10 +23,10 @@ use Rattle.witness.specs.Choices.{needed, marked, choice_at, cells, Item, Small}
 use Rattle.witness.specs.Marking.{Keeps, Marks}
 use Rattle.witness.specs.Due.{DueAt, SomeDue}
 use Rattle.witness.specs.Sweeping.{place_of, swept, Below, MarkState, unwanted, pending, closed, Marking, MarksTo}
-use Rattle.witness.proofs.Places.{Same, same_or_other, of_same, item-place, item-weight, item-swept, same_place}
-use Rattle.witness.proofs.Places.{choice-stored, choice-elsewhere, keeps-none, keeps_then, keeps-stored, whole_item}
-use Rattle.witness.proofs.Lowering.{lower-below}
-use Rattle.witness.proofs.Marks.{Change, More, closed-more, grows-more}
+use Rattle.witness.proofs.Places.{Same, same_or_other, of_same, item_place, item_weight, item_swept, same_place}
+use Rattle.witness.proofs.Places.{choice_stored, choice_elsewhere, keeps_none, keeps_then, keeps_stored, whole_item}
+use Rattle.witness.proofs.Lowering.{lower_below}
+use Rattle.witness.proofs.Marks.{Change, More, closed_more, grows_more}
 
 module _ (w : World) where
   -- ---- where the sweep stands
@@ -41,7 +41,7 @@ module _ (w : World) where
       ((small.some, omega arith), ((some, omega arith), omega (arith, mul-le-mul rows nodes)))
 
   pub marks_none : {k p : ℕ} {choices : List ℕ} → Marking w k p choices → MarksTo w k p choices choices
-  marks_none marking = record { keeps = keeps-none w; marking = marking }
+  marks_none marking = record { keeps = keeps_none w; marking = marking }
 
   pub marks_then : {k p k' p' : ℕ} {before between after : List ℕ} → MarksTo w k p before between → MarksTo w k' p' between after
       → MarksTo w k' p' before after
@@ -65,7 +65,7 @@ module _ (w : World) where
     where
       moves : (a b : ℕ) → Item w a b → choice_at w.count choices a b ≡ needed → Below w (k + 1) 0 a b → Below w k (swept w) a b
       moves a b item new (inl lighter) =
-          elim (dec_lt (weight_in w a b) k) [ yes less ↦ inl less | no more ↦ inr (omega arith, item-swept w a b item) ]
+          elim (dec_lt (weight_in w a b) k) [ yes less ↦ inl less | no more ↦ inr (omega arith, item_swept w a b item) ]
       moves a b item new (inr (same, before)) = absurd (omega arith)
 
   -- nothing is due from the place p' up to p
@@ -77,7 +77,7 @@ module _ (w : World) where
       moves a b item new (inr (same, before)) =
           elim (dec_lt (place_of w a b) p') [
             | yes inside ↦ inr (same, inside)
-            | no behind ↦ absurd (none (place_of w a b, omega arith, before, (new, sym (item-weight w a b item) ∙ same)))
+            | no behind ↦ absurd (none (place_of w a b, omega arith, before, (new, sym (item_weight w a b item) ∙ same)))
           ]
 
   pub passes_on : {before after : List ℕ} (k p' p : ℕ) → (SomeDue needed k after w.counts p' p → ⊥) → MarksTo w k p before after
@@ -102,12 +102,12 @@ module _ (w : World) where
     between_more a b other some =
         elim (same_or_other x y a b) [
           | inl same ↦
-              of_same (λ (m n : ℕ). 1 ≤ choice_at w.count between m n) x y a b same (omega (arith, choice-stored w before x y marked room item))
-          | inr differ ↦ omega (arith, choice-elsewhere w before x y marked a b item other differ)
+              of_same (λ (m n : ℕ). 1 ≤ choice_at w.count between m n) x y a b same (omega (arith, choice_stored w before x y marked room item))
+          | inr differ ↦ omega (arith, choice_elsewhere w before x y marked a b item other differ)
         ]
 
     mark_more : More w (choice_at w.count before) (choice_at w.count after)
-    mark_more a b other some = grows-more w marks.grows a b other (between_more a b other some)
+    mark_more a b other some = grows_more w marks.grows a b other (between_more a b other some)
 
     -- another item is not at its place
     below_other : (a b : ℕ) → Item w a b → (Same x y a b → ⊥) → Below w k (place_of w x y + 1) a b → Below w k (place_of w x y) a b
@@ -119,18 +119,18 @@ module _ (w : World) where
         ]
 
     state_here : Change w x y x y (choice_at w.count between x y) (choice_at w.count after x y) → MarkState w k (place_of w x y) after x y
-    state_here (inl same) = closed (same ∙ choice-stored w before x y marked room item) marks.closed
-    state_here (inr (none, new, lower)) = absurd (omega (arith, choice-stored w before x y marked room item))
+    state_here (inl same) = closed (same ∙ choice_stored w before x y marked room item) marks.closed
+    state_here (inr (none, new, lower)) = absurd (omega (arith, choice_stored w before x y marked room item))
 
     state_elsewhere : (a b : ℕ) → Item w a b → (Same x y a b → ⊥) → Change w x y a b (choice_at w.count between a b) (choice_at w.count after a b)
         → MarkState w k (place_of w x y + 1) before a b → MarkState w k (place_of w x y) after a b
-    state_elsewhere a b other differ (inl same) (unwanted none) = unwanted (same ∙ choice-elsewhere w before x y marked a b item other differ ∙ none)
+    state_elsewhere a b other differ (inl same) (unwanted none) = unwanted (same ∙ choice_elsewhere w before x y marked a b item other differ ∙ none)
     state_elsewhere a b other differ (inl same) (pending new below) =
-        pending (same ∙ choice-elsewhere w before x y marked a b item other differ ∙ new) (below_other a b other differ below)
+        pending (same ∙ choice_elsewhere w before x y marked a b item other differ ∙ new) (below_other a b other differ below)
     state_elsewhere a b other differ (inl same) (closed done closes) =
-        closed (same ∙ choice-elsewhere w before x y marked a b item other differ ∙ done)
-        (closed-more w (choice_at w.count before) (choice_at w.count after) mark_more a b closes)
-    state_elsewhere a b other differ (inr (none, new, lower)) state = pending new (lower-below w x y k a b other weighs lower)
+        closed (same ∙ choice_elsewhere w before x y marked a b item other differ ∙ done)
+        (closed_more w (choice_at w.count before) (choice_at w.count after) mark_more a b closes)
+    state_elsewhere a b other differ (inr (none, new, lower)) state = pending new (lower_below w x y k a b other weighs lower)
 
     marking_marks : Marking w k (place_of w x y + 1) before → Marking w k (place_of w x y) after
     marking_marks marking =
@@ -148,7 +148,7 @@ module _ (w : World) where
     marks_on p some stands so_far =
         let next : p ≡ place_of w x y + 1 = omega arith in
         record {
-          keeps = keeps_then w so_far.keeps (keeps_then w (keeps-stored w before x y marked item) marks.grows.keeps);
+          keeps = keeps_then w so_far.keeps (keeps_then w (keeps_stored w before x y marked item) marks.grows.keeps);
           marking =
               subst (λ (m : ℕ). Marking w k m after) stands (marking_marks (subst (λ (m : ℕ). Marking w k m before) next so_far.marking));
         }
@@ -176,7 +176,7 @@ module _ (w : World) where
 
     cleared_unwanted : (a b : ℕ) → Item w a b → choice_at w.count cleared a b ≡ 0
     cleared_unwanted a b item =
-        let inside = item-place w a b item in
+        let inside = item_place w a b item in
         get_or-append zeros _ 0 (place w.count (a - 1) b) (omega (arith, length-replicate {A = ℕ} (cells w) 0))
         ∙ get_or-replicate (cells w) (place w.count (a - 1) b) 0 0 inside
 
@@ -188,17 +188,17 @@ module _ (w : World) where
     marks_from k some weighs =
         let root = whole_item w (whole w) refl (omega arith) in
         let long = keeps_cleared.long in
-        let asked : choice_at w.count begun (whole w) 0 ≡ needed = choice-stored w cleared (whole w) 0 needed (omega arith) root in
+        let asked : choice_at w.count begun (whole w) 0 ≡ needed = choice_stored w cleared (whole w) 0 needed (omega arith) root in
         let marking : Marking w (k + 1) 0 begun =
         record {
           states = λ a b item. elim (same_or_other (whole w) 0 a b) [
             | inl same ↦ of_same (MarkState w (k + 1) 0 begun) (whole w) 0 a b same (pending asked (inl (omega arith)))
-            | inr differ ↦ unwanted (choice-elsewhere w cleared (whole w) 0 needed a b root item differ ∙ cleared_unwanted a b item)
+            | inr differ ↦ unwanted (choice_elsewhere w cleared (whole w) 0 needed a b root item differ ∙ cleared_unwanted a b item)
           ];
           item = omega arith;
           root = omega arith;
         } in
-        record { keeps = keeps_then w keeps_cleared (keeps-stored w cleared (whole w) 0 needed root); marking = marking }
+        record { keeps = keeps_then w keeps_cleared (keeps_stored w cleared (whole w) 0 needed root); marking = marking }
 
     -- with the first number as it is computed
     pub marking_begins : {first after : List ℕ} (x k : ℕ) → x ≡ whole w → 1 ≤ k → weight_in w x 0 ≡ k → first ≡ cleared

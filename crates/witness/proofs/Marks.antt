@@ -19,22 +19,22 @@ use Rattle.derivations.specs.Derivations.{Alone, Tight}
 use Rattle.derivations.specs.Ways.{World, parts_in, weight_in, ways}
 use Rattle.derivations.specs.declared.Parts.{Parts}
 use Rattle.derivations.specs.declared.Parts.TheVariants.{One, Two, Nothing}
-use Rattle.derivations.proofs.Ways.{no-more-ways}
+use Rattle.derivations.proofs.Ways.{no_more_ways}
 use Rattle.witness.specs.Choices.{needed, marked, choice_at, cells, Item}
-use Rattle.witness.specs.Marking.{PartsWithin, withNeed, with_needs, Lower, Wanted, PartsWanted, Closed, Grows, MarksWay, Marks}
-use Rattle.witness.proofs.Places.{same_or_other, of_same, item-place, choice-stored, choice-elsewhere, keeps-none, keeps_then, keeps-stored}
-use Rattle.witness.proofs.Lowering.{PartLower, PartsLower, tight-lower}
+use Rattle.witness.specs.Marking.{PartsWithin, with_need, with_needs, Lower, Wanted, PartsWanted, Closed, Grows, MarksWay, Marks}
+use Rattle.witness.proofs.Places.{same_or_other, of_same, item_place, choice_stored, choice_elsewhere, keeps_none, keeps_then, keeps_stored}
+use Rattle.witness.proofs.Lowering.{PartLower, PartsLower, tight_lower}
 
 -- ---- one item becomes needed
 
 module _ (count : ℕ) (choices : List ℕ) (x y : ℕ) where
-  pub need_factor : x ≡ 0 → withNeed count choices x y ≡ choices
+  pub need_factor : x ≡ 0 → with_need count choices x y ≡ choices
   need_factor factor = rw (eq-eqb x 0 factor) refl
 
-  pub need_wanted : (x ≡ 0 → ⊥) → (choice_at count choices x y ≡ 0 → ⊥) → withNeed count choices x y ≡ choices
+  pub need_wanted : (x ≡ 0 → ⊥) → (choice_at count choices x y ≡ 0 → ⊥) → with_need count choices x y ≡ choices
   need_wanted other wanted = rw (ne_eqb x 0 other, ne_eqb (choice_at count choices x y) 0 wanted) refl
 
-  pub need_new : (x ≡ 0 → ⊥) → choice_at count choices x y ≡ 0 → withNeed count choices x y ≡ set choices (place count (x - 1) y) needed
+  pub need_new : (x ≡ 0 → ⊥) → choice_at count choices x y ≡ 0 → with_need count choices x y ≡ set choices (place count (x - 1) y) needed
   need_new other new = rw (ne_eqb x 0 other, eq-eqb (choice_at count choices x y) 0 new) refl
 
 -- ---- growth
@@ -52,7 +52,7 @@ module _ (w : World) where
     change_then a b before between after (inr (none, new, low)) (inr (none', new', low')) = inr (none, new', low')
 
     grows_none : {choices : List ℕ} → Grows w x y choices choices
-    grows_none = record { keeps = keeps-none w; each = λ a b item. inl refl }
+    grows_none = record { keeps = keeps_none w; each = λ a b item. inl refl }
 
     grows_then : {before between after : List ℕ} → Grows w x y before between → Grows w x y between after → Grows w x y before after
     grows_then {before} {between} {after} first second =
@@ -68,12 +68,12 @@ module _ (w : World) where
         → Grows w x y choices (set choices (place w.count (a - 1) b) needed)
     grows_new choices a b room item low none =
         record {
-          keeps = keeps-stored w choices a b needed item;
+          keeps = keeps_stored w choices a b needed item;
           each = λ m n other. elim (same_or_other a b m n) [
             | inl same ↦
                 of_same (λ (m n : ℕ). Change m n (choice_at w.count choices m n) (choice_at w.count (set choices (place w.count (a - 1) b) needed) m n))
-                a b m n same (inr (none, choice-stored w choices a b needed room item, low))
-            | inr differ ↦ inl (choice-elsewhere w choices a b needed m n item other differ)
+                a b m n same (inr (none, choice_stored w choices a b needed room item, low))
+            | inr differ ↦ inl (choice_elsewhere w choices a b needed m n item other differ)
           ];
         }
 
@@ -94,7 +94,7 @@ module _ (w : World) where
     parts_wanted_more x y Nothing lower wanted = wanted
 
     tight_wanted_more : (x y : ℕ) (ps : Parts) → Tight (weight_in w) x y ps → PartsWanted choice ps → PartsWanted choice' ps
-    tight_wanted_more x y ps tight = parts_wanted_more x y ps (tight-lower w x y ps tight)
+    tight_wanted_more x y ps tight = parts_wanted_more x y ps (tight_lower w x y ps tight)
 
     pub closed_more : (x y : ℕ) → Closed w choice x y → Closed w choice' x y
     closed_more x y closed = λ d candidate. tight_wanted_more x y (parts_in w x y d) candidate.tight (closed d candidate)
@@ -111,16 +111,16 @@ module _ (w : World) where
 
   module _ (x y : ℕ) where
     pub parts_within : (room : ℕ) (ps : Parts) → cells w ≤ room → PartsLower w x y ps → PartsWithin w.count room ps
-    parts_within room (One a b) inside lower = λ h. omega (arith, item-place w a b (lower h).0)
+    parts_within room (One a b) inside lower = λ h. omega (arith, item_place w a b (lower h).0)
     parts_within room (Two a b c d) inside lower =
-        (λ h. omega (arith, item-place w a b (lower.0 h).0), λ h. omega (arith, item-place w c d (lower.1 h).0))
+        (λ h. omega (arith, item_place w a b (lower.0 h).0), λ h. omega (arith, item_place w c d (lower.1 h).0))
     parts_within room Nothing inside lower = absurd lower
 
     -- growth after which the part is wanted
     abbrev Need : List ℕ → ℕ → ℕ → List ℕ → Type 0
     Need before a b after = Grows w x y before after × Wanted (choice_at w.count after) a b
 
-    need_one : (choices : List ℕ) (a b : ℕ) → cells w ≤ length choices → PartLower w x y a b → Need choices a b (withNeed w.count choices a b)
+    need_one : (choices : List ℕ) (a b : ℕ) → cells w ≤ length choices → PartLower w x y a b → Need choices a b (with_need w.count choices a b)
     need_one choices a b room lower =
         elim (ℕ_discrete a 0) [
           | yes factor ↦ subst (Need choices a b) (sym (need_factor w.count choices a b factor)) (grows_none x y, inl factor)
@@ -129,7 +129,7 @@ module _ (w : World) where
                 let (item, low) = lower (omega (arith, other)) in
                 subst (Need choices a b) (sym (need_new w.count choices a b other new)) (
                   grows_new x y choices a b room item low new,
-                  inr (rw (choice-stored w choices a b needed room item) (omega arith)),
+                  inr (rw (choice_stored w choices a b needed room item) (omega arith)),
                 )
             | no wanted ↦
                 subst (Need choices a b) (sym (need_wanted w.count choices a b other wanted)) (grows_none x y, inr (omega (arith, wanted)))
@@ -141,9 +141,9 @@ module _ (w : World) where
     need_all choices (One a b) room lower = need_one choices a b room lower
     need_all choices (Two a b c d) room lower =
         let (grows, wanted) = need_one choices a b room lower.0 in
-        let between = withNeed w.count choices a b in
+        let between = with_need w.count choices a b in
         let (grows', wanted') = need_one between c d (omega (arith, grows.keeps.long)) lower.1 in
-        let after = withNeed w.count between c d in
+        let after = with_need w.count between c d in
         let still = wanted_more (choice_at w.count between) (choice_at w.count after) (grows_more grows') a b (λ h. (lower.0 h).0) wanted in
         (grows_then x y grows grows', (still, wanted'))
     need_all choices Nothing room lower = absurd lower
@@ -152,7 +152,7 @@ module _ (w : World) where
     pub marks_tight : {before after : List ℕ} (d : ℕ) (r : Bool) → cells w ≤ length before → Tight (weight_in w) x y (parts_in w x y d)
         → after ≡ with_needs w.count before (parts_in w x y d) → (r ≡ true → Alone x (parts_in w x y d)) → MarksWay w x y d before r after
     marks_tight {before} d r room tight written alone =
-        let (grows, wanted) = need_all before (parts_in w x y d) room (tight-lower w x y (parts_in w x y d) tight) in
+        let (grows, wanted) = need_all before (parts_in w x y d) room (tight_lower w x y (parts_in w x y d) tight) in
         subst (MarksWay w x y d before r) (sym written) record { grows = grows; wanted = λ t. wanted; decided = λ e. (tight, alone e) }
 
     pub marks_loose : {choices : List ℕ} (d : ℕ) → (Tight (weight_in w) x y (parts_in w x y d) → ⊥) → MarksWay w x y d choices false choices
@@ -205,6 +205,6 @@ module _ (w : World) where
             grows = grown all.grows;
             closed = λ e candidate. elim (dec_lt e d) [
               | yes below ↦ all.wanted e below candidate.tight
-              | no behind ↦ absurd (no-more-ways w x y e some (omega arith) candidate.tight)
+              | no behind ↦ absurd (no_more_ways w x y e some (omega arith) candidate.tight)
             ];
           }

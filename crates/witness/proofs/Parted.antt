@@ -13,18 +13,18 @@ use Rattle.derivations.specs.Ways.{World, parts_in, weight_in}
 use Rattle.derivations.specs.declared.Parts.{Parts}
 use Rattle.derivations.specs.declared.Parts.TheVariants.{One, Two, Nothing}
 use Rattle.witness.specs.Choices.{Small, PartsDone}
-use Rattle.witness.specs.Stacks.{items_of, Entries, weightOf, Spelled, more, Ready}
-use Rattle.witness.proofs.Numbers.{item-entries}
+use Rattle.witness.specs.Stacks.{items_of, Entries, weight_of, Spelled, more, Ready}
+use Rattle.witness.proofs.Numbers.{item_entries}
 
 module _ (w : World) (x y : ℕ) where
   abbrev Tight-here : Parts → Type 0
   Tight-here ps = Tight (weight_in w) x y ps
 
   pub parts_entries : {choices : List ℕ} → Small w choices → (ps : Parts) → Tight-here ps → Entries (items_of ps)
-  parts_entries small (One a b) t = let low = item-entries small a b t.1 in (low.0, low.1, tt)
+  parts_entries small (One a b) t = let low = item_entries small a b t.1 in (low.0, low.1, tt)
   parts_entries small (Two a b c d) t =
-      let first = item-entries small a b t.0 in
-      let second = item-entries small c d t.1 in
+      let first = item_entries small a b t.0 in
+      let second = item_entries small c d t.1 in
       (first.0, first.1, (second.0, second.1, tt))
   parts_entries small Nothing t = absurd t
 
@@ -35,7 +35,7 @@ module _ (w : World) (x y : ℕ) where
 
   -- above the items that were below it
   module _ (is : List (ℕ × ℕ)) where
-    pub parts_weigh : (ps : Parts) → Tight-here ps → weightOf w (items_of ps ++ is) ≡ weightOf w ((x, y) ∷ is)
+    pub parts_weigh : (ps : Parts) → Tight-here ps → weight_of w (items_of ps ++ is) ≡ weight_of w ((x, y) ∷ is)
     parts_weigh (One a b) t = omega (arith, t.2)
     parts_weigh (Two a b c d) t = omega (arith, t.2)
     parts_weigh Nothing t = absurd t

@@ -21,7 +21,7 @@ use Rattle.trees.specs.Tree.{at, most_of_entry}
 use Rattle.tables.specs.Rules.{place}
 use Rattle.tables.proofs.Places.{same_row, same_column, place_earlier}
 use Rattle.derivations.specs.Ways.{World, row_item, weight_in, highest, whole}
-use Rattle.derivations.proofs.Ways.{item-inside}
+use Rattle.derivations.proofs.Ways.{item_inside}
 use Rattle.witness.specs.Choices.{choice_at, cells, Item, Small}
 use Rattle.witness.specs.Marking.{Keeps}
 use Rattle.witness.specs.Due.{StandsAt}
@@ -46,11 +46,11 @@ module _ (w : World) where
   -- the second number is a node, and the first not above the highest
   pub item_column : (x y : ℕ) → Item w x y → y < w.count
   item_column zero y item = absurd (omega (arith, item.0))
-  item_column (suc p) y item = (item-inside w p y item.1).0
+  item_column (suc p) y item = (item_inside w p y item.1).0
 
   pub item_row : (x y : ℕ) → Item w x y → x ≤ highest w
   item_row zero y item = omega arith
-  item_row (suc p) y item = let h = (item-inside w p y item.1).1 in omega arith
+  item_row (suc p) y item = let h = (item_inside w p y item.1).1 in omega arith
 
   -- rows up to that number are inside
   pub row_place : (x y : ℕ) → 1 ≤ x → x ≤ highest w → y < w.count → place w.count (x - 1) y < cells w
@@ -75,7 +75,7 @@ module _ (w : World) where
   -- what an item weighs is its count, which the counts have
   pub item_weight : (x y : ℕ) → Item w x y → weight_in w x y ≡ at w.counts (place_of w x y)
   item_weight zero y item = absurd (omega (arith, item.0))
-  item_weight (suc p) y item = (item-inside w p y item.1).2 ∙ row_behind p y
+  item_weight (suc p) y item = (item_inside w p y item.1).2 ∙ row_behind p y
 
   pub item_swept : (x y : ℕ) → Item w x y → place_of w x y < swept w
   item_swept x y item =

@@ -15,7 +15,7 @@ use Rattle.trees.specs.Tree.{at, most_of_entry}
 use Rattle.derivations.specs.Ways.{World}
 use Rattle.derivations.specs.declared.Parts.{Parts}
 use Rattle.derivations.specs.declared.Parts.TheVariants.{One, Two, Nothing}
-use Rattle.witness.specs.Stacks.{stacked, items_of, Entries, weightOf, Ready}
+use Rattle.witness.specs.Stacks.{stacked, items_of, Entries, weight_of, Ready}
 
 -- a store at some height leaves what is below
 stacked_below : (xs ys : List ℕ) (h a b k : ℕ) → k ≤ h → stacked (set xs h a) (set ys h b) k ≡ stacked xs ys k
@@ -76,9 +76,9 @@ length_stacked xs ys (suc h) = ap suc (length_stacked xs ys h)
 
 module _ (w : World) (choice : ℕ → ℕ → ℕ) where
   -- each item weighs 1 or more
-  length_weight : (is : List (ℕ × ℕ)) → Ready w choice is → length is ≤ weightOf w is
+  length_weight : (is : List (ℕ × ℕ)) → Ready w choice is → length is ≤ weight_of w is
   length_weight [] r = omega arith
   length_weight (i ∷ is) r = omega (arith, r.0, length_weight is r.2)
 
-  pub height_weight : (xs ys : List ℕ) (h : ℕ) → Ready w choice (stacked xs ys h) → h ≤ weightOf w (stacked xs ys h)
+  pub height_weight : (xs ys : List ℕ) (h : ℕ) → Ready w choice (stacked xs ys h) → h ≤ weight_of w (stacked xs ys h)
   height_weight xs ys h r = omega (arith, length_weight (stacked xs ys h) r, length_stacked xs ys h)

@@ -18,13 +18,13 @@ use Rattle.derivations.specs.Derivations.{Tight, Joins}
 use Rattle.derivations.specs.Ways.{World, parts_in, weight_in, highest}
 use Rattle.derivations.specs.declared.Parts.{Parts}
 use Rattle.derivations.specs.declared.Parts.TheVariants.{One, Two, Nothing}
-use Rattle.derivations.proofs.Series.{firsts-unique}
+use Rattle.derivations.proofs.Series.{firsts_unique}
 use Rattle.derivations.proofs.Steps.{steps, steps_one, steps_wide}
 use Rattle.witness.specs.Choices.{choice_at, Coded, Small, Done, Settled, AllSettled}
-use Rattle.witness.specs.Stacks.{stacked, items_of, Entries, weightOf, stepsLeft, Spelled, more, Ready, Standing, TakenApart}
-use Rattle.witness.proofs.Numbers.{item_low, item-place}
-use Rattle.witness.proofs.Parted.{parts-entries, parts-few, parts-weigh, parts-ready, parts_join}
-use Rattle.witness.proofs.Stacked.{stacked_top, height-weight}
+use Rattle.witness.specs.Stacks.{stacked, items_of, Entries, weight_of, steps_left, Spelled, more, Ready, Standing, TakenApart}
+use Rattle.witness.proofs.Numbers.{item_low, item_place}
+use Rattle.witness.proofs.Parted.{parts_entries, parts_few, parts_weigh, parts_ready, parts_join}
+use Rattle.witness.proofs.Stacked.{stacked_top, height_weight}
 
 -- ---- parts that are tight, on a stack in the place of their item
 
@@ -34,17 +34,17 @@ module _ (w : World) (x y : ℕ) where
 
   -- above the items that were below it
   module _ (is : List (ℕ × ℕ)) where
-    parts_fall : (ps : Parts) → 1 ≤ x → Tight-here ps → stepsLeft w (items_of ps ++ is) < stepsLeft w ((x, y) ∷ is)
+    parts_fall : (ps : Parts) → 1 ≤ x → Tight-here ps → steps_left w (items_of ps ++ is) < steps_left w ((x, y) ∷ is)
     parts_fall (One a b) h t = one_falls (weight_in w a b) (weight_in w x y) t.2 t.0
       where
-        one_falls : (k l : ℕ) → k ≡ l → a < x → steps (2 * suc (highest w)) k a + stepsLeft w is < steps (2 * suc (highest w)) l x + stepsLeft w is
+        one_falls : (k l : ℕ) → k ≡ l → a < x → steps (2 * suc (highest w)) k a + steps_left w is < steps (2 * suc (highest w)) l x + steps_left w is
         one_falls k l e h = rw (← e) (omega (arith, steps_one (2 * suc (highest w)) k x a h))
     parts_fall (Two a b c d) h t =
         two_fall (weight_in w a b) (weight_in w c d) (weight_in w x y) t.2
         (steps_wide (suc (highest w)) (weight_in w a b) (weight_in w c d) x a c t.0 t.1 h (omega (arith, item_low w a b t.0)) (omega (arith, item_low w c d t.1)))
       where
         two_fall : (k l m : ℕ) → k + l ≡ m → steps (2 * suc (highest w)) k a + steps (2 * suc (highest w)) l c < steps (2 * suc (highest w)) (k + l) x
-            → steps (2 * suc (highest w)) k a + (steps (2 * suc (highest w)) l c + stepsLeft w is) < steps (2 * suc (highest w)) m x + stepsLeft w is
+            → steps (2 * suc (highest w)) k a + (steps (2 * suc (highest w)) l c + steps_left w is) < steps (2 * suc (highest w)) m x + steps_left w is
         two_fall k l m e f = rw (← e) (omega (arith, f))
     parts_fall Nothing h t = absurd t
 
@@ -53,7 +53,7 @@ module _ (w : World) (x y : ℕ) where
         → Spelled w ((x, y) ∷ is) r → Spelled w (items_of (parts_in w x y t.way) ++ is) r
     parts_spell choice t r (more {r = p} {s = q} f spelled) =
         parts_join w x y is (parts_in w x y t.way) p q
-        (subst (Joins (parts_in w) (weight_in w) (parts_in w x y t.way)) (firsts-unique (parts_in w) (weight_in w) t.firsts f) t.joins) spelled
+        (subst (Joins (parts_in w) (weight_in w) (parts_in w x y t.way)) (firsts_unique (parts_in w) (weight_in w) t.firsts f) t.joins) spelled
 
 -- ---- the item on top
 
@@ -79,14 +79,14 @@ module _ {w : World} {choices xs ys : List ℕ} {height x y : ℕ} (top : Top w 
   ready : Ready w choice ((x, y) ∷ below)
   ready = subst (Ready w choice) on_top top.standing.ready
 
-  light : weightOf w ((x, y) ∷ below) ≤ most_factors
-  light = subst (λ (is : List (ℕ × ℕ)). weightOf w is ≤ most_factors) on_top top.standing.light
+  light : weight_of w ((x, y) ∷ below) ≤ most_factors
+  light = subst (λ (is : List (ℕ × ℕ)). weight_of w is ≤ most_factors) on_top top.standing.light
 
   no_factor : 1 ≤ x
   no_factor = omega (arith, top.some.1, top.at_x)
 
   pub top_place : (1 ≤ x) × (place w.count (x - 1) y < length choices)
-  top_place = (no_factor, item-place top.small x y (no_factor, ready.0))
+  top_place = (no_factor, item_place top.small x y (no_factor, ready.0))
 
   coded : Coded (choice x y)
   coded = from ready.1
@@ -109,11 +109,11 @@ module _ {w : World} {choices xs ys : List ℕ} {height x y : ℕ} (top : Top w 
     pub parts_room : (height - 1 + length (items_of ps) ≤ length xs) × (height - 1 + length (items_of ps) ≤ length ys) × Entries (items_of ps)
     parts_room =
         let tight : Tight (weight_in w) x y ps = subst (Tight (weight_in w) x y) (sym same_parts) chosen.tight in
-        let few = parts-few w x y ps tight in
-        let high = height-weight w choice xs ys (height - 1) ready.2 in (
+        let few = parts_few w x y ps tight in
+        let high = height_weight w choice xs ys (height - 1) ready.2 in (
           omega (arith, few, high, light, top.standing.room_x),
           omega (arith, few, high, light, top.standing.room_y),
-          parts-entries w x y top.small ps tight,
+          parts_entries w x y top.small ps tight,
         )
 
     pub taken_apart : (xs₁ ys₁ : List ℕ) (height₁ : ℕ) → length xs₁ ≡ length xs → length ys₁ ≡ length ys → stacked xs₁ ys₁ height₁ ≡ items_of ps ++ below
@@ -123,7 +123,7 @@ module _ {w : World} {choices xs ys : List ℕ} {height x y : ℕ} (top : Top w 
           standing = record {
             room_x = omega (arith, top.standing.room_x, same_x);
             room_y = omega (arith, top.standing.room_y, same_y);
-            ready = subst (Ready w choice) (sym is_now) (parts-ready w x y below choice chosen_parts chosen.tight chosen.done ready.2);
+            ready = subst (Ready w choice) (sym is_now) (parts_ready w x y below choice chosen_parts chosen.tight chosen.done ready.2);
             light = omega (arith, weighs, top.standing.light);
           };
           weighs = weighs;
@@ -138,5 +138,5 @@ module _ {w : World} {choices xs ys : List ℕ} {height x y : ℕ} (top : Top w 
         is_now : stacked xs₁ ys₁ height₁ ≡ items_of chosen_parts ++ below
         is_now = e ∙ ap (λ (qs : Parts). items_of qs ++ below) same_parts
 
-        weighs : weightOf w (stacked xs₁ ys₁ height₁) ≡ weightOf w (stacked xs ys height)
-        weighs = ap (weightOf w) is_now ∙ parts-weigh w x y below chosen_parts chosen.tight ∙ ap (weightOf w) (sym on_top)
+        weighs : weight_of w (stacked xs₁ ys₁ height₁) ≡ weight_of w (stacked xs ys height)
+        weighs = ap (weight_of w) is_now ∙ parts_weigh w x y below chosen_parts chosen.tight ∙ ap (weight_of w) (sym on_top)

@@ -3,7 +3,7 @@ use Rattle.std.specs.Prelude.{Bool, ◌≡◌, List, ℕ, ◌+◌, ◌<◌}
 use Rattle.refusals.specs.Telling.{Tells}
 use Rattle.products.specs.Product.{Before}
 use Rattle.derivations.specs.Ways.{World}
-use Rattle.witness.specs.Stacks.{stacked, stepsLeft, Spelled, Standing}
+use Rattle.witness.specs.Stacks.{stacked, steps_left, Spelled, Standing}
 use Rattle.witness.specs.declared.comparing.Tops.{Tops}
 use Rattle.witness.specs.declared.comparing.Tops.TheVariants.{Same, Differ, First, Second}
 use Rattle.witness.specs.declared.comparing.Compared.{Compared}
@@ -31,8 +31,8 @@ module _ (w : World) (choice : ℕ → ℕ → ℕ) (xs ys us vs : List ℕ) (he
   -- And what they are still to cost fell.
   pub record GoesOn (xs₁ ys₁ us₁ vs₁ : List ℕ) (height₁ other₁ : ℕ) : Type 0 where
     pub on : GoingOn xs₁ ys₁ us₁ vs₁ height₁ other₁
-    pub falls : stepsLeft w (stacked xs₁ ys₁ height₁) + stepsLeft w (stacked us₁ vs₁ other₁)
-        < stepsLeft w (stacked xs ys height) + stepsLeft w (stacked us vs other)
+    pub falls : steps_left w (stacked xs₁ ys₁ height₁) + steps_left w (stacked us₁ vs₁ other₁)
+        < steps_left w (stacked xs ys height) + steps_left w (stacked us vs other)
 
   -- the comparison goes on, or is over
   abbrev pub Compares : Compared → List ℕ → List ℕ → List ℕ → List ℕ → Type 0

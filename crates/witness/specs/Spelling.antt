@@ -1,7 +1,7 @@
 -- What is kept while a series is spelled. Assumes nothing: these are definitions.
 use Rattle.std.specs.Prelude.{◌≡◌, List, ◌++◌, ℕ, ◌≤◌, ◌<◌, length, take, drop}
 use Rattle.derivations.specs.Ways.{World}
-use Rattle.witness.specs.Stacks.{stacked, stepsLeft, Spelled, Standing}
+use Rattle.witness.specs.Stacks.{stacked, steps_left, Spelled, Standing}
 
 module _ (w : World) (choice : ℕ → ℕ → ℕ) where
   -- The series r is spelled in part: its front is written, where `old` was, and the stack spells the rest.
@@ -17,4 +17,4 @@ module _ (w : World) (choice : ℕ → ℕ → ℕ) where
   -- One step further: whatever was spelled in part still is, and less is to be done.
   pub record Further (xs ys witness : List ℕ) (height written : ℕ) (xs₁ ys₁ witness₁ : List ℕ) (height₁ written₁ : ℕ) : Type 0 where
     pub spells : (old r : List ℕ) → Halfway old r xs ys witness height written → Halfway old r xs₁ ys₁ witness₁ height₁ written₁
-    pub falls : stepsLeft w (stacked xs₁ ys₁ height₁) < stepsLeft w (stacked xs ys height)
+    pub falls : steps_left w (stacked xs₁ ys₁ height₁) < steps_left w (stacked xs ys height)

@@ -2,7 +2,7 @@
 ghost use Rattle.std.specs.Prelude.{◌≡◌, length};
 ghost use Rattle.derivations.specs.Ways.{world};
 ghost use Rattle.witness.specs.Choices.{Item, Small};
-ghost use Rattle.witness.specs.Marking.{Within, PartsWithin, withNeed, with_needs, MarksWay, Marks};
+ghost use Rattle.witness.specs.Marking.{Within, PartsWithin, with_need, with_needs, MarksWay, Marks};
 
 use crate::choices::{MARKED, NEEDED, choice, set_choice};
 use derivations::Parts;
@@ -10,7 +10,7 @@ use derivations::Parts;
 // The item is needed, if it is no factor.
 pub(crate) fn need(count: usize, choices: &mut [u16], x: usize, y: usize)
     requires { Within count (length choices.old) x y }
-    ensures { choices.new ≡ withNeed count choices.old x y }
+    ensures { choices.new ≡ with_need count choices.old x y }
 {
     if x == 0 {
         return;

@@ -23,7 +23,7 @@ use Rattle.refusals.specs.declared.Asked.{Asked}
 use Rattle.refusals.specs.declared.Asked.TheVariants.{Passed, Refused}
 use Rattle.words.specs.declared.Written.{Written}
 use Rattle.words.specs.declared.Written.TheVariants.{Length, Refused as Written-as-Refused}
-use Rattle.refusals.proofs.Asking.{asks_yes, yes_first, of-word-room, of-word-refused, of_letters_short}
+use Rattle.refusals.proofs.Asking.{asks_yes, yes_first, of_word_room, of_word_refused, of_letters_short}
 use Rattle.words.proofs.Bytes.{length_bytes}
 
 pub of_word_passes : (w : List ℕ) (needed room : ℕ) → length w ≤ most_letters → length w ≤ first_other w → needed ≤ room → of_word w needed room ≡ Passed
@@ -61,9 +61,9 @@ room_enough w = go (of_letters w) refl
   where
     go : (a : Asked) → of_letters w ≡ a → of_word w (1 * length w) most_letters ≡ a
     go Passed e =
-        of-word-room w (1 * length w) most_letters e
+        of_word_room w (1 * length w) most_letters e
         ∙ asks_yes _ OutputTooShort (le-leb (1 * length w) most_letters (omega (arith, of_letters_short w e)))
-    go (Refused refusal) e = of-word-refused w (1 * length w) most_letters e
+    go (Refused refusal) e = of_word_refused w (1 * length w) most_letters e
 
 module _ (w before after : List ℕ) (r : Reduction) (h : Reduces w before r after) (room : length before ≡ most_letters) where
   questions : of_word w (1 * length w) (length before) ≡ of_letters w

@@ -3,7 +3,7 @@ use mathlib.Core.Path.{◌≡◌, refl, ap}
 use Prim.Native.Nat.{ℕ, ◌-◌, ◌≤◌}
 use native.Mathlib.Omega.{arith}
 use Rattle.tables.specs.Rules.{next_pair}
-use Rattle.tables.proofs.Places.{next-column}
+use Rattle.tables.proofs.Places.{next_column}
 
 -- in a row, from its last column, and behind the last pair of all
 pub next_in_row : next_pair 3 1 0 ≡ (1, 1)
@@ -26,7 +26,7 @@ next_in_widest = refl
 -- the column that goes up to the width, for every width
 pub column_up_to_the_width_refused : (width row : ℕ) → 1 ≤ width → next_pair width row (width - 1) ≡ (row, width) → ⊥
 column_up_to_the_width_refused width row some wrong =
-    omega (arith, next-column width row (width - 1) some, ap (λ (pair : ℕ × ℕ). pair.1) wrong)
+    omega (arith, next_column width row (width - 1) some, ap (λ (pair : ℕ × ℕ). pair.1) wrong)
 
 -- the row that is carried one column early
 pub row_carried_early_refused : next_pair 3 0 1 ≡ (1, 0) → ⊥

@@ -16,7 +16,7 @@ use Rattle.residues.proofs.Every.{every, at}
 use Rattle.residues.proofs.Numbering.{there_are_168}
 use Rattle.residues.proofs.Images.{image_small}
 use Rattle.residues.proofs.Multiplied.{multiplied_small, multiplied_unit}
-use Rattle.residues.proofs.Quick.{quick_empty, quick-not-open}
+use Rattle.residues.proofs.Quick.{quick_empty, quick_not_open}
 use Rattle.worked.proofs.Refused.{once}
 
 -- the list SSS
@@ -92,16 +92,16 @@ flip_no r series counted e = subst (λ (k : ℕ). T (is_power k)) (e ∙ image_R
 
 -- the verdict's no given for the quick one: RSS is no product of SR, but modulo 7 it is
 pub verdict_for_quick_refused : QuickNoRight (plain once) (R ∷ S ∷ S ∷ []) → ⊥
-verdict_for_quick_refused right = quick-not-open (plain once) (R ∷ S ∷ S ∷ []) right inverse_open
+verdict_for_quick_refused right = quick_not_open (plain once) (R ∷ S ∷ S ∷ []) right inverse_open
 
 -- open for a target that the images do not make
 pub open_for_flip_refused : OpenRight (plain once) (R ∷ []) → ⊥
-open_for_flip_refused = quick-not-open (plain once) (R ∷ []) flip_no
+open_for_flip_refused = quick_not_open (plain once) (R ∷ []) flip_no
 
 -- a closure that begins at the unit: the empty target open for an empty list
 pub open_for_nothing_refused : OpenRight (plain []) [] → ⊥
-open_for_nothing_refused = quick-not-open (plain []) [] nothing_no
+open_for_nothing_refused = quick_not_open (plain []) [] nothing_no
 
 -- the empty product left out by leaving the unit out: no for the empty target of a list that has a relation
 pub no_for_relation_refused : QuickNoRight (plain thrice) [] → ⊥
-no_for_relation_refused right = quick-not-open (plain thrice) [] right vanishing_open
+no_for_relation_refused right = quick_not_open (plain thrice) [] right vanishing_open

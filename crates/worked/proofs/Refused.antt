@@ -13,9 +13,9 @@ use Rattle.products.specs.Product.{Family, Series, letters, measure, Reaches, Ri
 use Rattle.products.specs.State.{LeastLead}
 use Rattle.products.proofs.FirstLetter.{equal_reduced}
 use Rattle.products.proofs.Rivals.{some_counted}
-use Rattle.products.proofs.Unbounded.{yes-not-no}
-use Rattle.products.proofs.Relations.{member-some, reached-not-none}
-use Rattle.worked.proofs.Trying.{plain_tried, misses, misses_before, member-by-trying}
+use Rattle.products.proofs.Unbounded.{yes_not_no}
+use Rattle.products.proofs.Relations.{member_some, reached_not_none}
+use Rattle.worked.proofs.Trying.{plain_tried, misses, misses_before, member_by_trying}
 use Rattle.worked.proofs.Values.{P9, list10, list11, P11, list12, P12, P8_no, P9_no, P11_yes, P12_yes}
 
 -- factors beside which a shorter rival reaches the target
@@ -35,7 +35,7 @@ both = (S ∷ R ∷ []) ∷ (S ∷ R ∷ S ∷ R ∷ []) ∷ []
 pub dropped_right : MemberRight (plain once) (S ∷ R ∷ S ∷ R ∷ []) 2 (0 ∷ 0 ∷ []) 2
 unfolding nf misses misses_before
 dropped_right =
-    member-by-trying (plain_tried once) (S ∷ R ∷ S ∷ R ∷ []) 2 0 (0 ∷ [])
+    member_by_trying (plain_tried once) (S ∷ R ∷ S ∷ R ∷ []) 2 0 (0 ∷ [])
     (record { series = (omega arith, (omega arith, tt)); counted = omega arith; within = omega arith })
     (equal_of_nf (letters once (0 ∷ 0 ∷ [])) (S ∷ R ∷ S ∷ R ∷ []) refl) refl refl
 
@@ -102,7 +102,7 @@ P8_member_0_refused = empty_series_refused (plain []) [] 0 0
 
 -- a count of 0, whatever factors come with it
 pub count_0_refused : (family : Family) (target : Word) (n : ℕ) (factors : List ℕ) → MemberRight family target n factors 0 → ⊥
-count_0_refused family target n factors member = not-suc-le-zero (member-some family target member)
+count_0_refused family target n factors member = not-suc-le-zero (member_some family target member)
 
 -- the diagonal of the table taken as 0: the least count that leads from a state to itself is one of series that have a factor
 pub diagonal_0_refused : (gens : List Word) (n : ℕ) (u : Word) → LeastLead gens n u u 0 → ⊥
@@ -110,7 +110,7 @@ diagonal_0_refused gens n u entry = let (r, some, leads, weighs) = entry.led zer
 
 -- none for an empty target, though the list has a relation
 pub overlooked_relation_refused : NoneRight (plain list12) [] 5 → ⊥
-overlooked_relation_refused = reached-not-none (plain list12) [] (0 ∷ []) P12.rival P12.reaches
+overlooked_relation_refused = reached_not_none (plain list12) [] (0 ∷ []) P12.rival P12.reaches
 
 -- a relation of an empty list, of one factor or of more
 pub relation_of_nothing_refused : (n : ℕ) (factors : List ℕ) (count : ℕ) → MemberRight (plain []) [] n factors count → ⊥
@@ -120,18 +120,18 @@ relation_of_nothing_refused n factors count member = P8_no factors member.rival.
 
 -- no, though three S's from three factors cancel
 pub overlooked_no_refused : NoRight (plain list11) (R ∷ []) → ⊥
-overlooked_no_refused = yes-not-no (plain list11) (R ∷ []) P11_yes
+overlooked_no_refused = yes_not_no (plain list11) (R ∷ []) P11_yes
 
 -- no for an empty target, though the list has a relation
 pub overlooked_relation_no_refused : NoRight (plain list12) [] → ⊥
-overlooked_relation_no_refused = yes-not-no (plain list12) [] P12_yes
+overlooked_relation_no_refused = yes_not_no (plain list12) [] P12_yes
 
 -- yes for an empty list, whatever series it is said for, and the empty target is no exception
 pub always_yes_refused : YesRight (plain []) (R ∷ []) → ⊥
-always_yes_refused yes_right = yes-not-no (plain []) (R ∷ []) yes_right P9_no
+always_yes_refused yes_right = yes_not_no (plain []) (R ∷ []) yes_right P9_no
 
 pub empty_yes_refused : YesRight (plain []) [] → ⊥
-empty_yes_refused yes_right = yes-not-no (plain []) [] yes_right P8_no
+empty_yes_refused yes_right = yes_not_no (plain []) [] yes_right P8_no
 
 -- no where only series of at most n factors were tried, whatever n is: T to the power n + 1 is no product of at most n times T, and is one of n + 1 times
 abbrev pub powers : ℕ → Word
@@ -171,4 +171,4 @@ times_letters (suc k) = ap (λ (w : Word). S ∷ R ∷ w) (times_letters k)
 
 pub stopped_no_refused : (n : ℕ) → NoneRight (plain once) (powers (suc n)) n × (NoRight (plain once) (powers (suc n)) → ⊥)
 stopped_no_refused n =
-    (powers_none n, yes-not-no (plain once) (powers (suc n)) (times (suc n), times_series (suc n), omega arith, equal_path (times_letters (suc n))))
+    (powers_none n, yes_not_no (plain once) (powers (suc n)) (times (suc n), times_series (suc n), omega arith, equal_path (times_letters (suc n))))

@@ -7,7 +7,7 @@ use native.Mathlib.Omega.{arith}
 use Rattle.words.specs.Word.{R, S, Word, none, nf}
 use Rattle.products.specs.Product.{plain, signed, NoneRight, MemberRight, smaller}
 use Rattle.products.proofs.Rivals.{rival_of}
-use Rattle.worked.proofs.Trying.{plain_tried, signed_tried, misses, misses_before, none-by-trying, member-by-trying, unequal_by_trying}
+use Rattle.worked.proofs.Trying.{plain_tried, signed_tried, misses, misses_before, none_by_trying, member_by_trying, unequal_by_trying}
 use Rattle.worked.proofs.Refused.{once}
 
 abbrev pub turn : List Word
@@ -21,26 +21,26 @@ flip = (R ∷ []) ∷ []
 -- 01: "The inverse of R is R and of S is SS". So SS is one factor with inverses ..
 pub turned_back : MemberRight (signed turn) (S ∷ S ∷ []) 1 (128 ∷ []) 1
 unfolding nf misses misses_before
-turned_back = member-by-trying (signed_tried turn) (S ∷ S ∷ []) 1 128 [] (rival_of (omega arith, tt) (omega arith) (omega arith)) none refl refl
+turned_back = member_by_trying (signed_tried turn) (S ∷ S ∷ []) 1 128 [] (rival_of (omega arith, tt) (omega arith) (omega arith)) none refl refl
 
 -- .. where without them there is none of one factor, and one of two
 pub turned_twice_none : NoneRight (plain turn) (S ∷ S ∷ []) 1
 unfolding nf misses
-turned_twice_none = none-by-trying (plain_tried turn) (S ∷ S ∷ []) 1 refl
+turned_twice_none = none_by_trying (plain_tried turn) (S ∷ S ∷ []) 1 refl
 
 pub turned_twice : MemberRight (plain turn) (S ∷ S ∷ []) 2 (0 ∷ 0 ∷ []) 2
 unfolding nf misses misses_before
-turned_twice = member-by-trying (plain_tried turn) (S ∷ S ∷ []) 2 0 (0 ∷ []) (rival_of (omega arith, (omega arith, tt)) (omega arith) (omega arith)) none refl refl
+turned_twice = member_by_trying (plain_tried turn) (S ∷ S ∷ []) 2 0 (0 ∷ []) (rival_of (omega arith, (omega arith, tt)) (omega arith) (omega arith)) none refl refl
 
 -- P4: "the inverse of SR is RSS."
 pub P4_signed : MemberRight (signed once) (R ∷ S ∷ S ∷ []) 1 (128 ∷ []) 1
 unfolding nf misses misses_before
-P4_signed = member-by-trying (signed_tried once) (R ∷ S ∷ S ∷ []) 1 128 [] (rival_of (omega arith, tt) (omega arith) (omega arith)) none refl refl
+P4_signed = member_by_trying (signed_tried once) (R ∷ S ∷ S ∷ []) 1 128 [] (rival_of (omega arith, tt) (omega arith) (omega arith)) none refl refl
 
 -- R is its own inverse, so both its numbers reach it. The generator's own stands first, by M-100's order of the numbers as written.
 pub flipped : MemberRight (signed flip) (R ∷ []) 1 (0 ∷ []) 1
 unfolding nf misses misses_before
-flipped = member-by-trying (signed_tried flip) (R ∷ []) 1 0 [] (rival_of (omega arith, tt) (omega arith) (omega arith)) none refl refl
+flipped = member_by_trying (signed_tried flip) (R ∷ []) 1 0 [] (rival_of (omega arith, tt) (omega arith) (omega arith)) none refl refl
 
 pub inverse_before_given_refused : MemberRight (signed flip) (R ∷ []) 1 (128 ∷ []) 1 → ⊥
 inverse_before_given_refused member = member.first (0 ∷ []) flipped.rival flipped.reaches refl (smaller (omega arith))

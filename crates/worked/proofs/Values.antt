@@ -9,9 +9,9 @@ use Rattle.words.specs.Word.{R, S, Word, sss, nf, inverse}
 use Rattle.words.proofs.NormalForm.{nf_normal, equal_of_nf}
 use Rattle.unimodular.specs.Matrix.{signed, matrix_of, NormalFormOf}
 use Rattle.products.specs.Product.{letters, NoneRight, MemberRight, YesRight, NoRight, plain}
-use Rattle.products.proofs.Unbounded.{member-yes}
-use Rattle.products.proofs.Relations.{no-factors-none}
-use Rattle.worked.proofs.Trying.{plain_tried, misses, misses_before, none-by-trying, member-by-trying}
+use Rattle.products.proofs.Unbounded.{member_yes}
+use Rattle.products.proofs.Relations.{no_factors_none}
+use Rattle.worked.proofs.Trying.{plain_tried, misses, misses_before, none_by_trying, member_by_trying}
 
 -- P1: "RR and SSS give the empty word."
 pub P1 : (nf (R ∷ R ∷ []) ≡ []) × (nf (S ∷ S ∷ S ∷ []) ≡ [])
@@ -48,12 +48,12 @@ P7 = record { normal = nf_normal (S ∷ S ∷ R ∷ []); matrix = inr refl }
 
 -- P8: "empty list, empty target, n 0: member 0." 02, M-105: "P8 becomes none".
 pub P8 : NoneRight (plain []) [] 0
-P8 = no-factors-none (plain []) []
+P8 = no_factors_none (plain []) []
 
 -- P9: "empty list, target R, n 1000: none."
 pub P9 : NoneRight (plain []) (R ∷ []) 1000
 unfolding nf misses
-P9 = none-by-trying (plain_tried []) (R ∷ []) 1000 refl
+P9 = none_by_trying (plain_tried []) (R ∷ []) 1000 refl
 
 -- P10: "generators RS, S; target R; n 3: member 3, by 0 1 1; with n 2, none."
 abbrev pub list10 : List Word
@@ -61,12 +61,12 @@ list10 = (R ∷ S ∷ []) ∷ (S ∷ []) ∷ []
 
 pub P10_none : NoneRight (plain list10) (R ∷ []) 2
 unfolding nf misses
-P10_none = none-by-trying (plain_tried list10) (R ∷ []) 2 refl
+P10_none = none_by_trying (plain_tried list10) (R ∷ []) 2 refl
 
 pub P10 : MemberRight (plain list10) (R ∷ []) 3 (0 ∷ 1 ∷ 1 ∷ []) 3
 unfolding nf misses misses_before
 P10 =
-    member-by-trying (plain_tried list10) (R ∷ []) 3 0 (1 ∷ 1 ∷ [])
+    member_by_trying (plain_tried list10) (R ∷ []) 3 0 (1 ∷ 1 ∷ [])
     (record { series = (omega arith, (omega arith, (omega arith, tt))); counted = omega arith; within = omega arith })
     (equal_of_nf (letters list10 (0 ∷ 1 ∷ 1 ∷ [])) (R ∷ []) refl) refl refl
 
@@ -77,12 +77,12 @@ list11 = (R ∷ S ∷ R ∷ S ∷ []) ∷ (S ∷ []) ∷ (S ∷ R ∷ S ∷ S �
 
 pub P11_none : NoneRight (plain list11) (R ∷ []) 2
 unfolding nf misses
-P11_none = none-by-trying (plain_tried list11) (R ∷ []) 2 refl
+P11_none = none_by_trying (plain_tried list11) (R ∷ []) 2 refl
 
 pub P11 : MemberRight (plain list11) (R ∷ []) 3 (0 ∷ 1 ∷ 2 ∷ []) 3
 unfolding nf misses misses_before
 P11 =
-    member-by-trying (plain_tried list11) (R ∷ []) 3 0 (1 ∷ 2 ∷ [])
+    member_by_trying (plain_tried list11) (R ∷ []) 3 0 (1 ∷ 2 ∷ [])
     (record { series = (omega arith, (omega arith, (omega arith, tt))); counted = omega arith; within = omega arith })
     (equal_of_nf (letters list11 (0 ∷ 1 ∷ 2 ∷ [])) (R ∷ []) refl) refl refl
 
@@ -93,7 +93,7 @@ list12 = (S ∷ S ∷ S ∷ []) ∷ []
 pub P12 : MemberRight (plain list12) [] 5 (0 ∷ []) 1
 unfolding nf misses misses_before
 P12 =
-    member-by-trying (plain_tried list12) [] 5 0 [] (record { series = (omega arith, tt); counted = omega arith; within = omega arith }) (sss [] [])
+    member_by_trying (plain_tried list12) [] 5 0 [] (record { series = (omega arith, tt); counted = omega arith; within = omega arith }) (sss [] [])
     refl refl
 
 -- .. though the empty series makes the empty word too: it is no rival
@@ -112,10 +112,10 @@ pub P9_no : NoRight (plain []) (R ∷ [])
 P9_no = no_products (R ∷ [])
 
 pub P10_yes : YesRight (plain list10) (R ∷ [])
-P10_yes = member-yes (plain list10) (R ∷ []) 3 (0 ∷ 1 ∷ 1 ∷ []) 3 P10
+P10_yes = member_yes (plain list10) (R ∷ []) 3 (0 ∷ 1 ∷ 1 ∷ []) 3 P10
 
 pub P11_yes : YesRight (plain list11) (R ∷ [])
-P11_yes = member-yes (plain list11) (R ∷ []) 3 (0 ∷ 1 ∷ 2 ∷ []) 3 P11
+P11_yes = member_yes (plain list11) (R ∷ []) 3 (0 ∷ 1 ∷ 2 ∷ []) 3 P11
 
 pub P12_yes : YesRight (plain list12) []
-P12_yes = member-yes (plain list12) [] 5 (0 ∷ []) 1 P12
+P12_yes = member_yes (plain list12) [] 5 (0 ∷ []) 1 P12

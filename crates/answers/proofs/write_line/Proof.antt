@@ -1,6 +1,6 @@
 -- The witness is asked for the factors, and only then is the line written. Assumes nothing.
 use mathlib.Core.Path.{sym, ◌∙◌}
-use Rattle.answers.proofs.Room.{factors-missing}
+use Rattle.answers.proofs.Room.{factors_missing}
 use borrow.Author.Rules.{rules}
 use Rattle.answers.proofs.write_line.Statement.{statement}
 use Rattle.answers.proofs.write_line.Tie as tie
@@ -20,7 +20,7 @@ returns c = search rules
 returns-2 : tie.Need-returns-2
 returns-2 c =
     let a = c.before.before.before.before.args in
-    factors-missing a.answer a.witness.now a.out.now (sym c.before.witnessed.ensures ∙ c.if1.false)
+    factors_missing a.answer a.witness.now a.out.now (sym c.before.witnessed.ensures ∙ c.if1.false)
 
 pub write-line-spec : {M : Type 1} → statement M
 write-line-spec =

@@ -5,9 +5,9 @@ use lib.ListN.{length, replicate, length-replicate}
 use lib.Seq.{length-take-le}
 use Rattle.limits.specs.Limits.{most_letters, most_generators, most_of_list}
 use Rattle.queries.specs.Posing.{Lent as Posed-as-Lent, HasRoom}
-use Rattle.queries.proofs.PosedReady.{PosedReady, posed-refused, posed-passed}
+use Rattle.queries.proofs.PosedReady.{PosedReady, posed_refused, posed_passed}
 use Rattle.engine.specs.Calls.{Lent}
-use Rattle.engine.proofs.GivenList.{judges-refused, judges-ready}
+use Rattle.engine.proofs.GivenList.{judges_refused, judges_ready}
 use native.Mathlib.Omega.{arith}
 use borrow.Author.Rules.{rules}
 use Rattle.engine.proofs.judge.Statement.{statement}
@@ -79,7 +79,7 @@ room =
 ready : (c : tie.After-m)
     → PosedReady (start c).args.bytes.now (start c).args.ends.now (start c).args.target.now c.m.given.0.0 c.m.given.0.1.0
     c.m.given.0.1.1.0 (filled (posed c))
-ready c = posed-passed {before = zeros} (posed c).pose.ensures room c.m.given.1
+ready c = posed_passed {before = zeros} (posed c).pose.ensures room c.m.given.1
 
 -- there is room for the nodes of the generators
 room_wholes : (c : tie.After-m) → length (start c).args.ends.now ≤ length (filled (posed c)).tree.wholes
@@ -153,8 +153,8 @@ returns : tie.Need-returns
 returns c =
     let p = c.before.before.before.before.before.before.before.before.before in
     let a = (begun p).args in
-    judges-refused a.bytes.now a.ends.now a.target.now a.n.0 (lent (begun p))
-    (posed-refused {before = zeros} {after = filled p} p.pose.ensures room c.before.refusal.given.1).0
+    judges_refused a.bytes.now a.ends.now a.target.now a.n.0 (lent (begun p))
+    (posed_refused {before = zeros} {after = filled p} p.pose.ensures room c.before.refusal.given.1).0
 
 same_length : tie.Need-same-length
 same_length c = search rules
@@ -172,7 +172,7 @@ returns-2 c =
     let a = (start told).args in
     let f = j.judge-form in
     let last = f.new.1.1.1.1.1.1.1.1.1 in
-    judges-ready a.bytes.now a.ends.now a.target.now a.n.0 f.result (lent (start told))
+    judges_ready a.bytes.now a.ends.now a.target.now a.n.0 f.result (lent (start told))
     (record { first = last.0; second = last.1.0; witness = last.1.1.0 }) (ready told) (f.ensures _ (ready told).forms.ready)
 
 pub judge-spec : {M : Type 1} → statement M

@@ -3,7 +3,7 @@
 use mathlib.Core.Path.{sym, ◌∙◌}
 use native.Mathlib.Omega.{arith}
 use borrow.Author.Rules.{rules}
-use Rattle.fields.proofs.LetterSpans.{no_length, length-fits, span-cut, span-whole}
+use Rattle.fields.proofs.LetterSpans.{no_length, length_fits, span_cut, span_whole}
 use Rattle.fields.proofs.letters_after.Statement.{statement}
 use Rattle.fields.proofs.letters_after.Tie as tie
 
@@ -20,7 +20,7 @@ add_start : tie.Need-overflow-add-start
 add_start c =
     let a = c.before.before.before.before.before.args in
     let said = sym c.before.len.given.1 ∙ c.before.before.before.short-after.ensures in
-    record { fits = omega (arith, length-fits a.card.now a.at said) }
+    record { fits = omega (arith, length_fits a.card.now a.at said) }
 
 cast-len : tie.Need-overflow-cast-len
 cast-len c = search rules
@@ -29,19 +29,19 @@ sub-if1 : tie.Need-overflow-sub-if1
 sub-if1 c =
     let a = c.before.before.before.before.before.args in
     let said = sym c.before.len.given.1 ∙ c.before.before.before.short-after.ensures in
-    length-fits a.card.now a.at said
+    length_fits a.card.now a.at said
 
 returns : tie.Need-returns
 returns c =
     let a = c.before.before.before.before.before.before.args in
     let said = sym c.before.before.len.given.1 ∙ c.before.before.before.before.short-after.ensures in
-    span-cut a.card.now a.at said c.if1.true
+    span_cut a.card.now a.at said c.if1.true
 
 add-t8 : tie.Need-overflow-add-t8
 add-t8 c =
     let a = c.before.before.before.before.before.before.args in
     let said = sym c.before.before.len.given.1 ∙ c.before.before.before.before.short-after.ensures in
-    record { fits = omega (arith, length-fits a.card.now a.at said) }
+    record { fits = omega (arith, length_fits a.card.now a.at said) }
 
 returns-2 : tie.Need-returns-2
 returns-2 c =
@@ -53,7 +53,7 @@ returns-3 : tie.Need-returns-3
 returns-3 c =
     let a = c.before.before.before.before.before.before.args in
     let said = sym c.before.before.len.given.1 ∙ c.before.before.before.before.short-after.ensures in
-    span-whole a.card.now a.at said (omega (arith, length-fits a.card.now a.at said))
+    span_whole a.card.now a.at said (omega (arith, length_fits a.card.now a.at said))
 
 pub letters-after-spec : {M : Type 1} → statement M
 letters-after-spec =

@@ -1,7 +1,7 @@
 -- A pair, and a row behind the pairs. Assumes nothing.
 use mathlib.Core.Path.{◌∙◌}
 use Rattle.derivations.specs.Ways.{World, world}
-use Rattle.items.proofs.Numbers.{parts-pair, parts-row}
+use Rattle.items.proofs.Numbers.{parts_pair, parts_row}
 use borrow.Author.Rules.{rules}
 use Rattle.items.proofs.parts.Statement.{statement}
 use Rattle.items.proofs.parts.Tie as tie
@@ -28,7 +28,7 @@ returns-2 : tie.Need-returns-2
 returns-2 c =
     let e = c.before.before in
     let a = (begun e).args in
-    c.of_pair.ensures ∙ parts-pair (told-by (begun e)) a.x a.y a.d e.if1.false c.before.if2.true
+    c.of_pair.ensures ∙ parts_pair (told-by (begun e)) a.x a.y a.d e.if1.false c.before.if2.true
 
 sub-next-row : tie.Need-overflow-sub-next-row
 sub-next-row c = search rules
@@ -43,7 +43,7 @@ returns-3 : tie.Need-returns-3
 returns-3 c =
     let e = c.before.before in
     let a = (begun e).args in
-    c.next_row.ensures ∙ parts-row (told-by (begun e)) a.x a.y a.d e.if1.false c.before.if2.false
+    c.next_row.ensures ∙ parts_row (told-by (begun e)) a.x a.y a.d e.if1.false c.before.if2.false
 
 pub parts-spec : {M : Type 1} → statement M
 parts-spec =

@@ -1,6 +1,6 @@
 -- Each answer is the first no by the tests on the way. Assumes nothing.
 use mathlib.Core.Path.{sym, ◌∙◌}
-use Rattle.lists.proofs.Refusing.{too-many-generators, too-many-letters, target-too-long, ends-wrong, by_letters}
+use Rattle.lists.proofs.Refusing.{too_many_generators, too_many_letters, target_too_long, ends_wrong, by_letters}
 use borrow.Author.Rules.{rules}
 use Rattle.lists.proofs.of_list.Statement.{statement}
 use Rattle.lists.proofs.of_list.Tie as tie
@@ -8,17 +8,17 @@ use Rattle.lists.proofs.of_list.Tie as tie
 returns : tie.Need-returns
 returns c =
     let a = c.before.before.before.before.args in
-    sym (too-many-generators a.bytes.now a.ends.now a.target.now c.if1.true)
+    sym (too_many_generators a.bytes.now a.ends.now a.target.now c.if1.true)
 
 returns-2 : tie.Need-returns-2
 returns-2 c =
     let a = c.before.before.before.before.before.args in
-    sym (too-many-letters a.bytes.now a.ends.now a.target.now c.before.if1.false c.if2.true)
+    sym (too_many_letters a.bytes.now a.ends.now a.target.now c.before.if1.false c.if2.true)
 
 returns-3 : tie.Need-returns-3
 returns-3 c =
     let a = c.before.before.before.before.before.before.args in
-    sym (target-too-long a.bytes.now a.ends.now a.target.now c.before.before.if1.false c.before.if2.false c.if3.true)
+    sym (target_too_long a.bytes.now a.ends.now a.target.now c.before.before.if1.false c.before.if2.false c.if3.true)
 
 of-ends-requires : tie.Need-of-ends-requires
 of-ends-requires c κs = search rules
@@ -35,7 +35,7 @@ of-all-letters-requires c κs = search rules
 returns-4 : tie.Need-returns-4
 returns-4 c =
     let a = c.before.before.before.before.before.before.before.before.before.before.args in
-    sym (ends-wrong a.bytes.now a.ends.now a.target.now c.before.before.before.before.before.before.if1.false c.before.before.before.before.before.if2.false c.before.before.before.before.if3.false (sym c.before.before.before.of-ends.ensures ∙ c.before.refusal.given.1))
+    sym (ends_wrong a.bytes.now a.ends.now a.target.now c.before.before.before.before.before.before.if1.false c.before.before.before.before.before.if2.false c.before.before.before.before.if3.false (sym c.before.before.before.of-ends.ensures ∙ c.before.refusal.given.1))
 
 returns-5 : tie.Need-returns-5
 returns-5 c =

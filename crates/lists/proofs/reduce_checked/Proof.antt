@@ -14,7 +14,7 @@ use Rattle.products.proofs.Generators.{generators_length}
 use Rattle.lists.specs.NormalList.{total, normal_bytes, normal_ends}
 use Rattle.lists.specs.Reducing.{of_room}
 use Rattle.lists.specs.Calls.{of_reduced_list}
-use Rattle.lists.proofs.Answering.{too_long, none-too-long, asked-refused, asked-room, hands, handed}
+use Rattle.lists.proofs.Answering.{too_long, none_too_long, asked_refused, asked_room, hands, handed}
 use Rattle.lists.proofs.Behind.{all_pass}
 use Rattle.lists.proofs.Forms.{all_ends}
 use Rattle.lists.proofs.NormalList.{normal_ends_length}
@@ -67,8 +67,8 @@ questions : (c : tie.After-wide) → let f = formed c in let a = (start f).args 
     of_reduced_list (gens f) (bytes f) (ends f) (length a.out.now) (length a.out-ends.now) ≡ of_room (normal_bytes (gens f)) (normal_ends 0 (gens f)) a.out.now a.out-ends.now
 questions c =
     let f = formed c in
-    asked-room (gens f) (bytes f) (ends f) (start f).args.out.now (start f).args.out-ends.now
-    (none-too-long (bytes f) (ends f) (start f).pre (rw f.write-forms.ensures.0 at c.before.before.if1.false))
+    asked_room (gens f) (bytes f) (ends f) (start f).args.out.now (start f).args.out-ends.now
+    (none_too_long (bytes f) (ends f) (start f).pre (rw f.write-forms.ensures.0 at c.before.before.if1.false))
 
 -- ---- the needs
 
@@ -89,7 +89,7 @@ returns c =
     let a = (start f).args in
     let count = f.write-forms.ensures.0 in
     hands (λ (q : Asked). length_or q (total (gens f))) (normal_bytes (gens f)) (normal_ends 0 (gens f)) a.out.now a.out-ends.now _
-    (asked-refused (gens f) (bytes f) (ends f) a.out.now a.out-ends.now (too_long (bytes f) (ends f) (start f).requires (omega (arith, count, c.if1.true))))
+    (asked_refused (gens f) (bytes f) (ends f) a.out.now a.out-ends.now (too_long (bytes f) (ends f) (start f).requires (omega (arith, count, c.if1.true))))
     (ap (λ (k : ℕ). Written-as-Refused (GeneratorTooLong k)) count) refl refl
 
 wide-requires : tie.Need-wide-requires

@@ -4,7 +4,7 @@ use Rattle.words.specs.Calls.{length_or}
 use Rattle.refusals.specs.declared.Asked.{Asked}
 use Rattle.products.specs.Product.{generators}
 use Rattle.lists.specs.NormalList.{total, normal_bytes, normal_ends}
-use Rattle.lists.proofs.Answering.{alone-refused, asked-refused, hands}
+use Rattle.lists.proofs.Answering.{alone_refused, asked_refused, hands}
 use borrow.Author.Rules.{rules}
 use Rattle.lists.proofs.reduce_list.Statement.{statement}
 use Rattle.lists.proofs.reduce_list.Tie as tie
@@ -29,8 +29,8 @@ returns c =
     let a = c.before.before.before.before.before.before.before.before.before.args in
     let gens = generators a.bytes.now a.ends.now in
     hands (λ (q : Asked). length_or q (total gens)) (normal_bytes gens) (normal_ends 0 gens) a.out.now a.out-ends.now _
-    (asked-refused gens a.bytes.now a.ends.now a.out.now a.out-ends.now
-    (alone-refused a.bytes.now a.ends.now (sym c.before.before.before.of-list.ensures ∙ c.before.refusal.given.1))) refl refl refl
+    (asked_refused gens a.bytes.now a.ends.now a.out.now a.out-ends.now
+    (alone_refused a.bytes.now a.ends.now (sym c.before.before.before.of-list.ensures ∙ c.before.refusal.given.1))) refl refl refl
 
 same_length : tie.Need-same-length
 same_length c = search rules

@@ -12,8 +12,8 @@ use Rattle.lists.specs.declared.Signed.{Signed}
 use Rattle.lists.specs.NormalList.{total, normal_bytes, normal_ends}
 use Rattle.lists.specs.Reducing.{ReducedFrom}
 use Rattle.lists.specs.Calls.{lengths_or}
-use Rattle.lists.proofs.Answering.{asked-refused, asked-room, hands, same-questions}
-use Rattle.lists.proofs.ReducedList.{list-refused, list-passes, list-total, list-reduced}
+use Rattle.lists.proofs.Answering.{asked_refused, asked_room, hands, same_questions}
+use Rattle.lists.proofs.ReducedList.{list_refused, list_passes, list_total, list_reduced}
 use Rattle.lists.proofs.ShortForms.{total_short}
 use native.Mathlib.Omega.{arith}
 use borrow.Author.Rules.{rules}
@@ -48,11 +48,11 @@ abbrev list-ends : tie.After-given → List ℕ
 list-ends c = (passed c).reduce-list.new.1.1.1.0
 
 reduced : (c : tie.After-given) → ReducedFrom (gens (passed c)) (take c.given.given.0.0.0 (letters c)) (take (length (ends (passed c))) (list-ends c))
-reduced c = list-reduced (bytes (passed c)) (ends (passed c)) _ _ _ _ _ (passed c).reduce-list.ensures refl refl c.given.given.1
+reduced c = list_reduced (bytes (passed c)) (ends (passed c)) _ _ _ _ _ (passed c).reduce-list.ensures refl refl c.given.given.1
 
 fits : (c : tie.After-given) → c.given.given.0.0.0 ≤ length (letters c)
 fits c =
-    let m = list-total (bytes (passed c)) (ends (passed c)) _ _ _ _ _ (passed c).reduce-list.ensures refl refl c.given.given.1 in
+    let m = list_total (bytes (passed c)) (ends (passed c)) _ _ _ _ _ (passed c).reduce-list.ensures refl refl c.given.given.1 in
     omega (arith, m, total_short (gens (passed c)) (reduced c).short, (passed c).reduce-list.auto.1.1.0)
 
 ends-fit : (c : tie.After-given) → length (ends (passed c)) ≤ length (list-ends c)
@@ -104,8 +104,8 @@ returns c =
     let r = c.before.before.before.before.before in
     let a = (start r).args in
     hands (answered r) (normal_bytes (with_inverses (gens r))) (normal_ends 0 (with_inverses (gens r))) a.out.now a.out-ends.now _
-    (asked-refused (with_inverses (gens r)) (bytes r) (ends r) a.out.now a.out-ends.now
-    (list-refused (bytes r) (ends r) _ _ _ _ _ r.reduce-list.ensures refl refl c.before.refusal.given.1)) refl refl refl
+    (asked_refused (with_inverses (gens r)) (bytes r) (ends r) a.out.now a.out-ends.now
+    (list_refused (bytes r) (ends r) _ _ _ _ _ r.reduce-list.ensures refl refl c.before.refusal.given.1)) refl refl refl
 
 same_length : tie.Need-same-length
 same_length c = search rules
@@ -118,9 +118,9 @@ returns-2 c =
     let t = c.before.before.before.before.before.before.before.before.before.before.before in
     let r = passed t in
     let a = (start r).args in
-    same-questions (answered r)
-    (asked-room (with_inverses (gens r)) (bytes r) (ends r) a.out.now a.out-ends.now
-    (list-passes (bytes r) (ends r) _ _ _ _ _ r.reduce-list.ensures refl refl t.given.given.1))
+    same_questions (answered r)
+    (asked_room (with_inverses (gens r)) (bytes r) (ends r) a.out.now a.out-ends.now
+    (list_passes (bytes r) (ends r) _ _ _ _ _ r.reduce-list.ensures refl refl t.given.given.1))
     (c.before.before.before.before.hand-over-signed.ensures (gens r) (reduced t))
 
 pub reduce-signed-spec : {M : Type 1} → statement M

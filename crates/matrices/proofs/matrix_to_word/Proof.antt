@@ -9,8 +9,8 @@ use Rattle.refusals.specs.declared.Asked.TheVariants.{Passed}
 use Rattle.matrices.specs.Questions.{of_entries}
 use Rattle.matrices.specs.Spelling.{form_room, of_length}
 use Rattle.matrices.specs.Entries.{matrix}
-use Rattle.matrices.proofs.Range.{small-of-passed, passed-in-range, passed-determinant}
-use Rattle.matrices.proofs.Writing.{turns_refused, turns-written}
+use Rattle.matrices.proofs.Range.{small_of_passed, passed_in_range, passed_determinant}
+use Rattle.matrices.proofs.Writing.{turns_refused, turns_written}
 use native.Mathlib.Omega.{arith}
 use borrow.Author.Rules.{rules}
 use Rattle.matrices.proofs.matrix_to_word.Statement.{statement}
@@ -38,8 +38,8 @@ spell-requires : tie.Need-spell-requires
 spell-requires c κs =
     let m = matrix (start c.before).args.m in
     let e = entries-passed c.before in
-    let s = small-of-passed m (passed-in-range m e) in
-    (passed-determinant m e, (omega arith, refl))
+    let s = small_of_passed m (passed_in_range m e) in
+    (passed_determinant m e, (omega arith, refl))
 
 sub-write-out : tie.Need-overflow-sub-write-out
 sub-write-out c = search rules
@@ -70,7 +70,7 @@ returns-2 c =
     let form = p.new.1.0 in
     let at = p.result in
     let all : take (form_room - at) (drop at form) ≡ drop at form = take_all (form_room - at) (drop at form) (omega (arith, length-drop at form, p.auto.1.0)) in
-    turns-written (matrix a.m) a.out.now form at p.auto.1.0 p.ensures
+    turns_written (matrix a.m) a.out.now form at p.auto.1.0 p.ensures
     (o.0 ∙ ap (λ (s : List ℕ). length_or (of_length (length s) (length a.out.now)) (length s)) all)
     (o.1 ∙ ap (λ (s : List ℕ). written (of_length (length s) (length a.out.now)) s a.out.now) all)
     (entries-passed passed)

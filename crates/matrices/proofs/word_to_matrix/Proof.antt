@@ -8,12 +8,12 @@ use Rattle.words.specs.Bytes.{letter, word as word_of}
 use Rattle.refusals.specs.declared.Asked.{Asked}
 use Rattle.words.proofs.NormalForm.{nf_normal, nf_length}
 use Rattle.refusals.proofs.Asking.{of_letters_short}
-use Rattle.words.proofs.Answering.{reduce-refused, reduce-passed, reduce-length, reduce-form}
+use Rattle.words.proofs.Answering.{reduce_refused, reduce_passed, reduce_length, reduce_form}
 use Rattle.words.proofs.Bytes.{word_bytes}
 use Rattle.unimodular.specs.Matrix.{Matrix, matrix_of, signed}
 use Rattle.matrices.specs.Calls.{matrix_or}
 use Rattle.matrices.specs.Forming.{of_form}
-use Rattle.matrices.proofs.Reduction.{letters-refused, letters-passed, signed-nf}
+use Rattle.matrices.proofs.Reduction.{letters_refused, letters_passed, signed_nf}
 use native.Mathlib.Omega.{arith}
 use borrow.Author.Rules.{rules}
 use Rattle.matrices.proofs.word_to_matrix.Statement.{statement}
@@ -24,13 +24,13 @@ short : (c : tie.After-account) → c.account.given.0.0.kept.0 ≤ length c.befo
 short c =
     let w = c.before.before.before.before.before.before.args.word.now in
     let r = c.before.before.before.reduce in
-    let p = reduce-passed w _ _ _ r.ensures refl c.account.given.1 in
-    omega (arith, reduce-length w _ _ _ r.ensures refl c.account.given.1, nf_length (word_of w), length-map w letter, of_letters_short w p, r.auto.1.0)
+    let p = reduce_passed w _ _ _ r.ensures refl c.account.given.1 in
+    omega (arith, reduce_length w _ _ _ r.ensures refl c.account.given.1, nf_length (word_of w), length-map w letter, of_letters_short w p, r.auto.1.0)
 
 the_form : (c : tie.After-account) → word_of (take c.account.given.0.0.kept.0 c.before.before.before.reduce.new.1.0) ≡ nf (word_of c.before.before.before.before.before.before.args.word.now)
 the_form c =
     let w = c.before.before.before.before.before.before.args.word.now in
-    ap word_of (reduce-form w _ _ _ c.before.before.before.reduce.ensures refl c.account.given.1) ∙ word_bytes (nf (word_of w))
+    ap word_of (reduce_form w _ _ _ c.before.before.before.reduce.ensures refl c.account.given.1) ∙ word_bytes (nf (word_of w))
 
 slice-aggregate-reduce : tie.Need-slice-aggregate-reduce
 slice-aggregate-reduce c = search rules
@@ -62,17 +62,17 @@ of-normal-form-requires c κs =
 returns : tie.Need-returns
 returns c =
     let w = c.before.before.before.before.before.before.before.args.word.now in
-    let e = letters-refused w (reduce-refused w _ _ _ c.before.before.before.before.reduce.ensures refl c.before.refusal.given.1) in
+    let e = letters_refused w (reduce_refused w _ _ _ c.before.before.before.before.reduce.ensures refl c.before.refusal.given.1) in
     sym (ap (λ (a : Asked). matrix_or a (signed (matrix_of (word_of w)))) e)
 
 returns-2 : tie.Need-returns-2
 returns-2 c =
     let w = c.before.before.before.before.before.before.before.before.before.before.args.word.now in
-    let p = reduce-passed w _ _ _ c.before.before.before.before.before.before.before.reduce.ensures refl c.before.before.before.before.account.given.1 in
+    let p = reduce_passed w _ _ _ c.before.before.before.before.before.before.before.reduce.ensures refl c.before.before.before.before.account.given.1 in
     c.of-normal-form.ensures
     ∙ ap (λ (x : Word). matrix_or (of_form x) (signed (matrix_of x))) (the_form c.before.before.before.before)
-    ∙ ap (λ (m : Matrix). matrix_or (of_form (nf (word_of w))) m) (signed-nf w)
-    ∙ ap (λ (a : Asked). matrix_or a (signed (matrix_of (word_of w)))) (sym (letters-passed w p))
+    ∙ ap (λ (m : Matrix). matrix_or (of_form (nf (word_of w))) m) (signed_nf w)
+    ∙ ap (λ (a : Asked). matrix_or a (signed (matrix_of (word_of w)))) (sym (letters_passed w p))
 
 pub word-to-matrix-spec : {M : Type 1} → statement M
 word-to-matrix-spec =

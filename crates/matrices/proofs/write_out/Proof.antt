@@ -7,7 +7,7 @@ use Rattle.words.specs.Calls.{written, length_or}
 use Rattle.refusals.specs.declared.Asked.{Asked}
 use Rattle.slices.proofs.Slices.{pasted_front}
 use Rattle.matrices.specs.Spelling.{of_length}
-use Rattle.matrices.proofs.Writing.{letters-too-many, room-too-small, letters-and-room}
+use Rattle.matrices.proofs.Writing.{letters_too_many, room_too_small, letters_and_room}
 use borrow.Author.Rules.{rules}
 use native.Mathlib.Omega.{arith}
 use Rattle.matrices.proofs.write_out.Statement.{statement}
@@ -22,12 +22,12 @@ said form before e = (sym (ap (λ (q : Asked). length_or q (length form)) e), sy
 returns : tie.Need-returns
 returns c =
     let a = c.before.before.before.args in
-    said a.form.now a.out.now (letters-too-many (length a.form.now) (length a.out.now) (omega (arith, c.if1.true)))
+    said a.form.now a.out.now (letters_too_many (length a.form.now) (length a.out.now) (omega (arith, c.if1.true)))
 
 returns-2 : tie.Need-returns-2
 returns-2 c =
     let a = c.before.before.before.before.args in
-    said a.form.now a.out.now (room-too-small (length a.form.now) (length a.out.now) (omega (arith, c.before.if1.false)) (omega (arith, c.before.if1.false, c.if2.true)))
+    said a.form.now a.out.now (room_too_small (length a.form.now) (length a.out.now) (omega (arith, c.before.if1.false)) (omega (arith, c.before.if1.false, c.if2.true)))
 
 copy-at-requires : tie.Need-copy-at-requires
 copy-at-requires c κs = search rules
@@ -41,7 +41,7 @@ same_length c = search rules
 returns-3 : tie.Need-returns-3
 returns-3 c =
     let a = c.before.before.before.before.before.before.before.before.args in
-    let s = said a.form.now a.out.now (letters-and-room (length a.form.now) (length a.out.now) (omega (arith, c.before.before.before.before.before.if1.false)) (omega (arith, c.before.before.before.before.if2.false))) in
+    let s = said a.form.now a.out.now (letters_and_room (length a.form.now) (length a.out.now) (omega (arith, c.before.before.before.before.before.if1.false)) (omega (arith, c.before.before.before.before.if2.false))) in
     (s.0, pasted_front c.before.before.copy_at.ensures (omega arith) ∙ s.1)
 
 pub write-out-spec : {M : Type 1} → statement M

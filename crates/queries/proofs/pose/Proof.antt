@@ -3,7 +3,7 @@ use mathlib.Core.Path.{refl, sym, ◌∙◌}
 use Rattle.limits.specs.Limits.{most_generators, most_of_list}
 use Rattle.refusals.proofs.Telling.{told, told_not}
 use Rattle.queries.specs.Posing.{Lent, HasRoom}
-use Rattle.queries.proofs.ByQuestions.{query-refused, query-posed}
+use Rattle.queries.proofs.ByQuestions.{query_refused, query_posed}
 use borrow.Author.Rules.{rules}
 use Rattle.queries.proofs.pose.Statement.{statement}
 use Rattle.queries.proofs.pose.Tie as tie
@@ -61,7 +61,7 @@ returns c =
     let q = c.before.before.before in
     let a = (start q).args in
     record {
-      posed = λ enough. query-refused a.bytes.now a.ends.now a.target.now (lent (start q)) (sym q.of-list.ensures ∙ c.before.refusal.given.1);
+      posed = λ enough. query_refused a.bytes.now a.ends.now a.target.now (lent (start q)) (sym q.of-list.ensures ∙ c.before.refusal.given.1);
       unfit = λ none. absurd (none (room q));
     }
 
@@ -91,7 +91,7 @@ returns-2 c =
     let a = (start q).args in
     record {
       posed = λ enough.
-          query-posed a.bytes.now a.ends.now a.target.now p.result (lent (start q)) _
+          query_posed a.bytes.now a.ends.now a.target.now p.result (lent (start q)) _
           (sym q.of-list.ensures ∙ posed.before.before.before.before.before.before.before.enum_told.given.1) p.ensures;
       unfit = λ none. absurd (none (room q));
     }

@@ -7,7 +7,7 @@ use Rattle.words.specs.Bytes.{word}
 use Rattle.refusals.specs.Questions.{question12}
 use Rattle.products.specs.Product.{generators}
 use Rattle.lists.specs.Questions.{of_list, question11}
-use Rattle.quick.proofs.ByQuestions.{first-refuses, first_passes}
+use Rattle.quick.proofs.ByQuestions.{first_refuses, first_passes}
 use borrow.Author.Rules.{rules}
 use Rattle.quick.proofs.quick_no.Statement.{statement}
 use Rattle.quick.proofs.quick_no.Tie as tie
@@ -29,7 +29,7 @@ returns c =
     let a = c.before.before.before.before.before.before.before.args in
     let gens = generators a.bytes.now a.ends.now in
     let target = word a.target.now in
-    first-refuses gens target (of_list a.bytes.now a.ends.now a.target.now) (question11 gens ∷ question12 (length (nf target)) ∷ [])
+    first_refuses gens target (of_list a.bytes.now a.ends.now a.target.now) (question11 gens ∷ question12 (length (nf target)) ∷ [])
     (sym c.before.before.before.of-list.ensures ∙ c.before.refusal.given.1)
 
 returns-2 : tie.Need-returns-2

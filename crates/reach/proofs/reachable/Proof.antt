@@ -6,9 +6,9 @@ use lib.Seq.{length-take-le}
 use Rattle.limits.specs.Limits.{most_letters, most_generators, most_of_list}
 use Rattle.words.specs.declared.Letters.{Letters}
 use Rattle.queries.specs.Posing.{Lent as Posing, HasRoom}
-use Rattle.queries.proofs.PosedReady.{PosedReady, posed-refused, posed-passed}
+use Rattle.queries.proofs.PosedReady.{PosedReady, posed_refused, posed_passed}
 use Rattle.reach.specs.Calls.{Lent}
-use Rattle.reach.proofs.GivenList.{reaches-refused, reaches-reduced}
+use Rattle.reach.proofs.GivenList.{reaches_refused, reaches_reduced}
 use native.Mathlib.Omega.{arith}
 use borrow.Author.Rules.{rules}
 use Rattle.reach.proofs.reachable.Statement.{statement}
@@ -86,7 +86,7 @@ count c = c.m.given.0.1.1.0
 
 posed : (c : tie.After-m)
     → PosedReady (start c).args.bytes.now (start c).args.ends.now (start c).args.target.now (m c) (t c) (count c) (written (asked c))
-posed c = posed-passed {before = empty} (asked c).pose.ensures room c.m.given.1
+posed c = posed_passed {before = empty} (asked c).pose.ensures room c.m.given.1
 
 room_wholes : (c : tie.After-m) → length (start c).args.ends.now ≤ length (written (asked c)).tree.wholes
 room-wholes c = omega (arith, (posed c).few, (asked c).pose.auto.1.1.1.1.1.1.1.1.0)
@@ -159,8 +159,8 @@ returns c =
     let p = c.before.before.before.before.before.before.before.before.before in
     let s = begun p in
     let a = s.args in
-    reaches-refused a.bytes.now a.ends.now a.target.now (lent s)
-    (posed-refused {before = empty} p.pose.ensures room c.before.refusal.given.1).0
+    reaches_refused a.bytes.now a.ends.now a.target.now (lent s)
+    (posed_refused {before = empty} p.pose.ensures room c.before.refusal.given.1).0
 
 same_length : tie.Need-same-length
 same_length c = search rules
@@ -175,7 +175,7 @@ returns-2 c =
     let p = posed (ready reached) in
     let s = start (ready reached) in
     let a = s.args in
-    reaches-reduced a.bytes.now a.ends.now a.target.now r.result (lent s) _ _ _
+    reaches_reduced a.bytes.now a.ends.now a.target.now r.result (lent s) _ _ _
     p.passed p.forms.letters p.forms.form (r.ensures _ p.forms.ready)
 
 pub reachable-spec : {M : Type 1} → statement M

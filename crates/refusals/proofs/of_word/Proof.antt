@@ -2,7 +2,7 @@
 use mathlib.Core.Path.{sym, ◌∙◌}
 use borrow.Author.Tests.{le-leb, lt-leb}
 use Rattle.refusals.specs.declared.Refusal.TheVariants.{OutputTooShort}
-use Rattle.refusals.proofs.Asking.{asks_yes, asks_no, of-word-room, of-word-refused}
+use Rattle.refusals.proofs.Asking.{asks_yes, asks_no, of_word_room, of_word_refused}
 use borrow.Author.Rules.{rules}
 use Rattle.refusals.proofs.of_word.Statement.{statement}
 use Rattle.refusals.proofs.of_word.Tie as tie
@@ -19,17 +19,17 @@ enum_told c = search rules
 returns : tie.Need-returns
 returns c =
     let a = c.before.before.before.before.before.args in
-    sym (of-word-room a.word.now a.needed a.room (sym c.before.before.before.of-letters.ensures ∙ c.before.enum_told.given.1) ∙ asks_no _ OutputTooShort (lt-leb _ _ c.if1.true))
+    sym (of_word_room a.word.now a.needed a.room (sym c.before.before.before.of-letters.ensures ∙ c.before.enum_told.given.1) ∙ asks_no _ OutputTooShort (lt-leb _ _ c.if1.true))
 
 returns-2 : tie.Need-returns-2
 returns-2 c =
     let a = c.before.before.before.before.before.args in
-    sym (of-word-refused a.word.now a.needed a.room (sym c.before.before.before.of-letters.ensures ∙ c.before.refusal.given.1))
+    sym (of_word_refused a.word.now a.needed a.room (sym c.before.before.before.of-letters.ensures ∙ c.before.refusal.given.1))
 
 returns-3 : tie.Need-returns-3
 returns-3 c =
     let a = c.before.before.before.before.before.args in
-    sym (of-word-room a.word.now a.needed a.room (sym c.before.before.before.of-letters.ensures ∙ c.before.enum_told.given.1) ∙ asks_yes _ OutputTooShort (le-leb _ _ c.if1.false))
+    sym (of_word_room a.word.now a.needed a.room (sym c.before.before.before.of-letters.ensures ∙ c.before.enum_told.given.1) ∙ asks_yes _ OutputTooShort (le-leb _ _ c.if1.false))
 
 pub of-word-spec : {M : Type 1} → statement M
 of-word-spec =

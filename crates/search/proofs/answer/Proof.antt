@@ -6,8 +6,8 @@ use lib.ListN.{length}
 use Rattle.tables.proofs.Parts.{part_length}
 use Rattle.search.specs.Search.{used}
 use borrow.Author.Rules.{rules}
-use Rattle.search.proofs.Laid.{laid-carried, carried-kept}
-use Rattle.search.proofs.Deciding.{none-answered, written-answered}
+use Rattle.search.proofs.Laid.{laid_carried, carried_kept}
+use Rattle.search.proofs.Deciding.{none_answered, written_answered}
 use Rattle.search.proofs.Tabulating.{rows_used}
 use Rattle.search.proofs.answer.Statement.{statement}
 use Rattle.search.proofs.answer.Tie as tie
@@ -38,7 +38,7 @@ same_length : tie.Need-same-length
 same_length c = search rules
 
 returns : tie.Need-returns
-returns c = none-answered (begun c.before).requires (omega (arith, c.before.entry.ensures.0))
+returns c = none_answered (begun c.before).requires (omega (arith, c.before.entry.ensures.0))
 
 add-end : tie.Need-overflow-add-end
 add-end c = search rules
@@ -98,10 +98,10 @@ returns-2 c =
     let there : (t + 1) * a.count ≤ length a.second.now = omega (arith, rows_used a.count t, room.second) in
     let behind : a.count * a.count + t * a.count ≤ length a.first.now = omega (arith, room.first) in
     rw c.of-written.ensures
-    (written-answered tabulated _ (laid-carried a.count t a.first.now a.second.now ((t + 1) * a.count) all there behind rows.carry.ensures)
+    (written_answered tabulated _ (laid_carried a.count t a.first.now a.second.now ((t + 1) * a.count) all there behind rows.carry.ensures)
     written.first-series.result
     (omega (arith, (read rows).entry.ensures.0))
-    (carried-kept a.count t a.first.now a.second.now ((t + 1) * a.count) all there behind rows.carry.ensures (used a.count t) (omega arith))
+    (carried_kept a.count t a.first.now a.second.now ((t + 1) * a.count) all there behind rows.carry.ensures (used a.count t) (omega arith))
     written.first-series.ensures)
 
 pub answer-spec : {M : Type 1} → statement M

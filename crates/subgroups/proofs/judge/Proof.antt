@@ -11,7 +11,7 @@ use Rattle.products.specs.Product.{generators}
 use Rattle.lists.specs.Questions.{of_list, question11}
 use Rattle.engine.specs.Calls.{Lent}
 use Rattle.subgroups.specs.Judging.{sizes_asked}
-use Rattle.subgroups.proofs.Verdicts.{signed-judged, signed-refused}
+use Rattle.subgroups.proofs.Verdicts.{signed_judged, signed_refused}
 use borrow.Author.Rules.{rules}
 use Rattle.subgroups.proofs.judge.Statement.{statement}
 use Rattle.subgroups.proofs.judge.Tie as tie
@@ -56,7 +56,7 @@ returns : tie.Need-returns
 returns c =
     let asked = c.before.before.before in
     let s = begun asked in
-    signed-refused (gens s) (word s.args.target.now) s.args.n.0 (lent s) s.args.inverses.now
+    signed_refused (gens s) (word s.args.target.now) s.args.n.0 (lent s) s.args.inverses.now
     (refused_first (early s) (late s) (sym asked.of-list.ensures ∙ c.before.refusal.given.1))
 
 same_length : tie.Need-same-length
@@ -77,7 +77,7 @@ returns-2 c =
     let t = j.before.before.before.before.before in
     let s = start t in
     let last = j.judge-list.new.1.1.1.1 in
-    signed-judged (gens s) (word s.args.target.now) s.args.n.0 j.judge-list.result (lent s)
+    signed_judged (gens s) (word s.args.target.now) s.args.n.0 j.judge-list.result (lent s)
     (record { first = last.0; second = last.1.0; witness = last.1.1.0 }) s.args.inverses.now last.1.1.1.0
     (sym (passed_first (early s) (late s) (passed t))) j.judge-list.ensures
 

@@ -6,7 +6,7 @@ use lib.ListN.{length}
 use native.Mathlib.Omega.{arith}
 use borrow.Author.Rules.{rules}
 use Rattle.refusals.specs.Telling.{pick}
-use Rattle.subgroups.proofs.Showing.{Inside, end-inside, part-inside, part_shows}
+use Rattle.subgroups.proofs.Showing.{Inside, end_inside, part_inside, part_shows}
 use Rattle.subgroups.proofs.letters_of.Statement.{statement}
 use Rattle.subgroups.proofs.letters_of.Tie as tie
 
@@ -19,13 +19,13 @@ inside : (c : tie.After-part-of)
 inside c =
     let a = (start c).args in
     subst (Inside a.given.now a.ends.now (length a.inverses.now) a.number) (sym c.part_of.ensures)
-    (part-inside a.given.now a.ends.now (length a.inverses.now) a.number)
+    (part_inside a.given.now a.ends.now (length a.inverses.now) a.number)
 
 within : (c : tie.After-part-of) (inverse? : Bool) → c.part_of.result.inverse ≡ inverse?
     → c.part_of.result.end ≤ pick inverse? (length (start c).args.inverses.now) (length (start c).args.given.now)
 within c inverse? e =
     let a = (start c).args in
-    end-inside a.given.now a.ends.now (length a.inverses.now) a.number c.part_of.result (inside c) inverse? e
+    end_inside a.given.now a.ends.now (length a.inverses.now) a.number c.part_of.result (inside c) inverse? e
 
 part-of-requires : tie.Need-part-of-requires
 part-of-requires c κs = search rules

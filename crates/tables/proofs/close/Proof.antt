@@ -6,7 +6,7 @@ use Rattle.products.specs.State.{weightless}
 use Rattle.products.proofs.Unbounded.{weightless_append}
 use Rattle.tables.proofs.Places.{square_bounded}
 use Rattle.refusals.proofs.Telling.{told, told_not}
-use Rattle.tables.proofs.Filled.{filled-part}
+use Rattle.tables.proofs.Filled.{filled_part}
 use borrow.Author.Rules.{rules}
 use native.Mathlib.Omega.{arith}
 use Rattle.tables.proofs.close.Statement.{statement}
@@ -52,7 +52,7 @@ returns c =
     let at-if1 = at-close-pairs.before.before in
     let at-fits2 = at-if1.before in
     let fits = told at-fits2.fits2.result at-if1.if1.true at-fits2.fits2.ensures in
-    (fits, filled-part weightless weightless_append _ fits.room at-close-pairs.close-pairs.ensures)
+    (fits, filled_part weightless weightless_append _ fits.room at-close-pairs.close-pairs.ensures)
 
 same-length-2 : tie.Need-same-length-2
 same-length-2 c = search rules

@@ -6,7 +6,7 @@ use lib.Seq.{length-take-le, length_front}
 use Rattle.products.specs.Product.{measure}
 use Rattle.tables.proofs.Places.{square_bounded}
 use Rattle.refusals.proofs.Telling.{told, told_not}
-use Rattle.tables.proofs.Filled.{filled-part}
+use Rattle.tables.proofs.Filled.{filled_part}
 use borrow.Author.Rules.{rules}
 use native.Mathlib.Omega.{arith}
 use Rattle.tables.proofs.fill.Statement.{statement}
@@ -52,7 +52,7 @@ returns c =
     let at-if1 = at-fill-levels.before.before in
     let at-fits2 = at-if1.before in
     let fits = told at-fits2.fits2.result at-if1.if1.true at-fits2.fits2.ensures in
-    (fits, filled-part measure length-append _ fits.room at-fill-levels.fill-levels.ensures)
+    (fits, filled_part measure length-append _ fits.room at-fill-levels.fill-levels.ensures)
 
 same-length-2 : tie.Need-same-length-2
 same-length-2 c = search rules

@@ -1,8 +1,8 @@
 -- Where the inputs fit, all generators are read, and the tree is theirs. Assumes nothing.
 use mathlib.Core.Path.{refl}
 use Rattle.refusals.proofs.Telling.{told, told_not}
-use Rattle.trees.proofs.Ends.{fits-same}
-use Rattle.trees.proofs.Listed.{few-nodes, count-nodes, read-tree}
+use Rattle.trees.proofs.Ends.{fits_same}
+use Rattle.trees.proofs.Listed.{few_nodes, count_nodes, read_tree}
 use borrow.Author.Rules.{rules}
 use Rattle.trees.proofs.build.Statement.{statement}
 use Rattle.trees.proofs.build.Tie as tie
@@ -53,12 +53,12 @@ returns c =
     let k = called.read_all.kept.1.1 in
     let t = called.read_all.ensures.0 in
     let f = told test.before.fits2.result test.if1.taken test.before.fits2.ensures in
-    let g = fits-same f k.0 k.1.0 k.1.1.0 k.1.1.1.0 k.1.1.1.1.0 in
+    let g = fits_same f k.0 k.1.0 k.1.1.0 k.1.1.1.0 k.1.1.1.1.0 in
     record {
       fits = f;
-      tree = read-tree bytes ends g t;
-      counted = count-nodes bytes ends g t;
-      few = few-nodes bytes ends g t;
+      tree = read_tree bytes ends g t;
+      counted = count_nodes bytes ends g t;
+      few = few_nodes bytes ends g t;
       remains = called.read_all.ensures.1;
       root_rest = t.grown.nodes.root_rest;
     }

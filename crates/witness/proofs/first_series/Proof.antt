@@ -4,7 +4,7 @@ use Prim.Native.Nat.{ℕ}
 use Rattle.refusals.proofs.Telling.{told, told_not}
 use Rattle.derivations.specs.Ways.{World, world, weight_in, whole}
 use Rattle.witness.specs.Witness.{Fits}
-use Rattle.witness.proofs.Results.{room_fits, fits-room, fits-less, writes-unfit, writes_more}
+use Rattle.witness.proofs.Results.{room_fits, fits_room, fits_less, writes_unfit, writes_more}
 use native.Mathlib.Omega.{arith}
 use borrow.Author.Rules.{rules}
 use Rattle.witness.proofs.first_series.Statement.{statement}
@@ -45,7 +45,7 @@ weight-requires c κs = search rules
 returns : tie.Need-returns
 returns c =
     let start = begun (roomy c.before) in
-    writes-unfit (in_world start) start.args.n.0 (λ _ derivable. omega (arith, derivable.some, weighs c.before, c.if2.true))
+    writes_unfit (in_world start) start.args.n.0 (λ _ derivable. omega (arith, derivable.some, weighs c.before, c.if2.true))
 
 cast-if3 : tie.Need-overflow-cast-if3
 cast-if3 c = search rules
@@ -58,7 +58,7 @@ write-requires c κs =
     let at-weight = c.before.before.before.before.before in
     let start = begun (roomy at-weight) in
     let k = at-weight.weight.result in (
-      fits-less (in_world start) k start.args.n.0 (omega (arith, c.before.before.if3.true)) (fits at-weight) (weighs at-weight),
+      fits_less (in_world start) k start.args.n.0 (omega (arith, c.before.before.if3.true)) (fits at-weight) (weighs at-weight),
       (at-weight.before.whole.ensures, (omega (arith, c.before.before.before.before.if2.false), sym at-weight.weight.ensures.0)),
     )
 
@@ -80,13 +80,13 @@ returns-3 : tie.Need-returns-3
 returns-3 c =
     let at-weight = c.before.before.before in
     let start = begun (roomy at-weight) in
-    writes-unfit (in_world start) start.args.n.0 (λ _ derivable. omega (arith, derivable.within, weighs at-weight, c.if3.false))
+    writes_unfit (in_world start) start.args.n.0 (λ _ derivable. omega (arith, derivable.within, weighs at-weight, c.if3.false))
 
 returns-4 : tie.Need-returns-4
 returns-4 c =
     let start = begun c.before in
-    writes-unfit (in_world start) start.args.n.0
-    (λ room derivable. told_not c.before.has_room.result c.if1.false c.before.has_room.ensures (fits-room (in_world start) room))
+    writes_unfit (in_world start) start.args.n.0
+    (λ room derivable. told_not c.before.has_room.result c.if1.false c.before.has_room.ensures (fits_room (in_world start) room))
 
 pub first-series-spec : {M : Type 1} → statement M
 first-series-spec =

@@ -6,7 +6,7 @@ use lib.ListN.{length}
 use Rattle.limits.specs.Limits.{most_letters, most_states}
 use Rattle.derivations.specs.Ways.{World, world}
 use Rattle.witness.specs.Sweeping.{MarksTo}
-use Rattle.witness.proofs.Places.{item-place, whole_item, small-kept}
+use Rattle.witness.proofs.Places.{item_place, whole_item, small_kept}
 use Rattle.witness.proofs.MarkSweeps.{marks_then, marking_begins}
 use native.Mathlib.Omega.{arith}
 use Rattle.witness.proofs.mark_from.Statement.{statement}
@@ -58,13 +58,13 @@ set-choice-requires c κs =
     let start = begun at_clear in
     let p = start.pre in
     let root = whole_item (in_world start) start.args.x p.1.0 (omega (arith, p.1.1)) in
-    (root.0, omega (arith, item-place (in_world start) start.args.x 0 root, p.0.room, at_clear.clear.auto.0))
+    (root.0, omega (arith, item_place (in_world start) start.args.x 0 root, p.0.room, at_clear.clear.auto.0))
 
 mark-all-requires : tie.Need-mark-all-requires
 mark-all-requires c κs =
     let at_set = c.before.before.before in
     let start = begun (asked at_set) in
-    (small-kept (in_world start) start.pre.0 (first at_set).keeps, (first at_set).marking)
+    (small_kept (in_world start) start.pre.0 (first at_set).keeps, (first at_set).marking)
 
 same_length : tie.Need-same-length
 same_length c = let at_all = c.before.before in at_all.mark-all.ensures.keeps.long ∙ (first at_all.before.before.before.before).keeps.long

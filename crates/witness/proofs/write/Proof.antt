@@ -5,10 +5,10 @@ use Prim.Native.Nat.{ℕ, ◌+◌}
 use Rattle.derivations.specs.Ways.{World, world, weight_in}
 use Rattle.witness.specs.Choices.{choice_at, Coded}
 use Rattle.witness.specs.Sweeping.{ChoosesTo}
-use Rattle.witness.proofs.Places.{whole_item, small-kept}
-use Rattle.witness.proofs.ItemChoices.{choosing-settled}
-use Rattle.witness.proofs.ChoiceSweeps.{choosing-begins, choosing-ends, chooses-then, chooses-stops}
-use Rattle.witness.proofs.Results.{writes-series, writes-stuck}
+use Rattle.witness.proofs.Places.{whole_item, small_kept}
+use Rattle.witness.proofs.ItemChoices.{choosing_settled}
+use Rattle.witness.proofs.ChoiceSweeps.{choosing_begins, choosing_ends, chooses_then, chooses_stops}
+use Rattle.witness.proofs.Results.{writes_series, writes_stuck}
 use native.Mathlib.Omega.{arith}
 use borrow.Author.Rules.{rules}
 use Rattle.witness.proofs.write.Statement.{statement}
@@ -29,7 +29,7 @@ in_world c =
 -- everything that the item needs is marked, and then chosen
 begins : (c : tie.After-mark-from)
     → ChoosesTo (in_world (begun c)) (begun c).args.k.0 1 0 (begun c).args.choices.now true c.mark-from.new.1.1.1.1.1.1.1.1.0
-begins c = let marks = c.mark-from.ensures in record { keeps = marks.keeps; choosing = choosing-begins (in_world (begun c)) marks.marking }
+begins c = let marks = c.mark-from.ensures in record { keeps = marks.keeps; choosing = choosing_begins (in_world (begun c)) marks.marking }
 
 abbrev Chosen : tie.After-choose-all → Type 0
 Chosen c =
@@ -38,7 +38,7 @@ Chosen c =
 
 all-chosen : (c : tie.After-choose-all) → c.choose-all.result ≡ true → Chosen c
 all-chosen c goes_on =
-    let at_mark = marked-then c in chooses-then (in_world (begun at_mark)) c.choose-all.result (begins at_mark) c.choose-all.ensures goes_on
+    let at_mark = marked-then c in chooses_then (in_world (begun at_mark)) c.choose-all.result (begins at_mark) c.choose-all.ensures goes_on
 
 mark-from-requires : tie.Need-mark-from-requires
 mark-from-requires c κs = let p = c.before.before.before.before.before.before.before.before.before.before.requires in (p.0.small, p.1)
@@ -61,7 +61,7 @@ choose-all-requires c κs =
     let start = begun at_mark in
     let p = start.pre.0 in
     let marked = begins at_mark in
-    (small-kept (in_world start) p.small marked.keeps, (p.bound, ((omega arith, omega arith, omega arith, omega arith), marked.choosing)))
+    (small_kept (in_world start) p.small marked.keeps, (p.bound, ((omega arith, omega arith, omega arith, omega arith), marked.choosing)))
 
 slice-aggregate-spell : tie.Need-slice-aggregate-spell
 slice-aggregate-spell c = search rules
@@ -82,13 +82,13 @@ spell-requires c κs =
     let all = all-chosen at_all c.before.before.before.before.if1.true in
     let coded : Coded (choice_at a.count choices a.x 0) =
     subst (λ (m : ℕ). Coded (choice_at a.count choices m 0)) (sym last)
-    (choosing-ends w a.k.0 (subst (λ (m : ℕ). weight_in w m 0 ≡ a.k.0) last weighs) all.choosing) in (
-      small-kept w p.0.small all.keeps,
+    (choosing_ends w a.k.0 (subst (λ (m : ℕ). weight_in w m 0 ≡ a.k.0) last weighs) all.choosing) in (
+      small_kept w p.0.small all.keeps,
       (
         (omega (arith, at_all.choose-all.auto.1.1.1.1.1.1.1.1.1.0), omega (arith, at_all.choose-all.auto.1.1.1.1.1.1.1.1.1.1.0)),
         (
           whole_item w a.x last (omega (arith, weighs, p.1.1.0)),
-          (coded, (omega (arith, weighs, p.0.bound), (omega (arith, weighs, p.0.room), choosing-settled w all.choosing))),
+          (coded, (omega (arith, weighs, p.0.bound), (omega (arith, weighs, p.0.room), choosing_settled w all.choosing))),
         ),
       ),
     )
@@ -116,7 +116,7 @@ returns c =
     let a = start.args in
     let p = start.pre in
     let all = all-chosen at_all at-spell.before.before.before.before.before.if1.true in
-    writes-series (in_world start) all.keeps a.x a.k.0 at-spell.spell.result p.0 p.1.0 p.1.1.1 at-spell.spell.ensures
+    writes_series (in_world start) all.keeps a.x a.k.0 at-spell.spell.result p.0 p.1.0 p.1.1.1 at-spell.spell.ensures
 
 same-length-3 : tie.Need-same-length-3
 same-length-3 c =
@@ -130,8 +130,8 @@ returns-2 c =
     let at_mark = marked-then at_all in
     let start = begun at_mark in
     let w = in_world start in
-    let none = chooses-stops w at_all.choose-all.result (begins at_mark) at_all.choose-all.ensures 0 0 c.if1.false (omega arith) in
-    writes-stuck w none.keeps start.args.k.0 none.choosing
+    let none = chooses_stops w at_all.choose-all.result (begins at_mark) at_all.choose-all.ensures 0 0 c.if1.false (omega arith) in
+    writes_stuck w none.keeps start.args.k.0 none.choosing
 
 pub write_spec : {M : Type 1} → statement M
 write_spec =

@@ -4,8 +4,8 @@ use Prim.Native.Nat.{◌*◌, ◌≤◌}
 use lib.ListN.{length}
 use Rattle.limits.specs.Limits.{most_letters}
 use Rattle.words.specs.Word.{Word, nf, inverse}
-use Rattle.refusals.proofs.Asking.{of-word-passed}
-use Rattle.words.proofs.Writing.{writes_nothing, writes-word}
+use Rattle.refusals.proofs.Asking.{of_word_passed}
+use Rattle.words.proofs.Writing.{writes_nothing, writes_word}
 use native.Mathlib.Omega.{arith}
 use borrow.Author.Rules.{rules}
 use Rattle.words.proofs.invert.Statement.{statement}
@@ -16,7 +16,7 @@ start c = c.before.before.before.before.before
 
 -- the word has passed its questions
 asked : (c : tie.After-enum-told) → (length (start c).args.word.now ≤ most_letters) × (2 * length (start c).args.word.now ≤ length (start c).args.out.now)
-asked c = of-word-passed (start c).args.word.now _ _ (sym c.before.before.of_word.ensures ∙ c.enum_told.given.1)
+asked c = of_word_passed (start c).args.word.now _ _ (sym c.before.before.of_word.ensures ∙ c.enum_told.given.1)
 
 mul-of-word : tie.Need-overflow-mul-of-word
 mul-of-word c = search rules
@@ -48,7 +48,7 @@ returns : tie.Need-returns
 returns c =
     let told = c.before.before.before.before.before.before.before in
     let a = (start told).args in
-    writes-word (λ (w : Word). nf (inverse w)) 2 a.word.now a.out.now _ told.before.before.of_word.result refl told.before.before.of_word.ensures told.enum_told.given.1 _ _ c.before.before.before.invert-on.ensures
+    writes_word (λ (w : Word). nf (inverse w)) 2 a.word.now a.out.now _ told.before.before.of_word.result refl told.before.before.of_word.ensures told.enum_told.given.1 _ _ c.before.before.before.invert-on.ensures
 
 slice-aggregate-invert-on-2 : tie.Need-slice-aggregate-invert-on-2
 slice-aggregate-invert-on-2 c = search rules
@@ -70,7 +70,7 @@ returns-3 : tie.Need-returns-3
 returns-3 c =
     let told = c.before.before.before.before.before.before.before in
     let a = (start told).args in
-    writes-word (λ (w : Word). nf (inverse w)) 2 a.word.now a.out.now _ told.before.before.of_word.result refl told.before.before.of_word.ensures told.enum_told.given.1 _ _ c.before.before.before.invert-on2.ensures
+    writes_word (λ (w : Word). nf (inverse w)) 2 a.word.now a.out.now _ told.before.before.of_word.result refl told.before.before.of_word.ensures told.enum_told.given.1 _ _ c.before.before.before.invert-on2.ensures
 
 pub invert-spec : {M : Type 1} → statement M
 invert-spec =

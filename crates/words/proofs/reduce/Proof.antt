@@ -3,8 +3,8 @@ use mathlib.Core.Path.{sym, ◌∙◌}
 use Prim.Native.Nat.{◌≤◌}
 use lib.ListN.{length}
 use Rattle.limits.specs.Limits.{most_letters}
-use Rattle.refusals.proofs.Asking.{of-word-passed}
-use Rattle.words.proofs.Writing.{reduces-nothing, reduces-word}
+use Rattle.refusals.proofs.Asking.{of_word_passed}
+use Rattle.words.proofs.Writing.{reduces_nothing, reduces_word}
 use native.Mathlib.Omega.{arith}
 use borrow.Author.Rules.{rules}
 use Rattle.words.proofs.reduce.Statement.{statement}
@@ -15,7 +15,7 @@ start c = c.before.before.before.before.before
 
 -- the word has passed its questions
 asked : (c : tie.After-enum-told) → (length (start c).args.word.now ≤ most_letters) × (length (start c).args.word.now ≤ length (start c).args.out.now)
-asked c = of-word-passed (start c).args.word.now _ _ (sym c.before.before.of_word.ensures ∙ c.enum_told.given.1)
+asked c = of_word_passed (start c).args.word.now _ _ (sym c.before.before.of_word.ensures ∙ c.enum_told.given.1)
 
 of-word-requires : tie.Need-of-word-requires
 of-word-requires c κs = search rules
@@ -41,7 +41,7 @@ returns : tie.Need-returns
 returns c =
     let told = c.before.before.before.before.before.before.before in
     let a = (start told).args in
-    reduces-word a.word.now a.out.now _ told.before.before.of_word.result (omega arith) told.before.before.of_word.ensures told.enum_told.given.1 _ _ c.before.before.before.reduce-on.ensures
+    reduces_word a.word.now a.out.now _ told.before.before.of_word.result (omega arith) told.before.before.of_word.ensures told.enum_told.given.1 _ _ c.before.before.before.reduce-on.ensures
 
 slice-aggregate-reduce-on-2 : tie.Need-slice-aggregate-reduce-on-2
 slice-aggregate-reduce-on-2 c = search rules
@@ -54,7 +54,7 @@ reduce-on-requires-2 c κs =
 returns-2 : tie.Need-returns-2
 returns-2 c =
     let a = c.before.before.before.before.before.before.args in
-    reduces-nothing a.word.now a.out.now _ c.before.before.before.of_word.result (omega arith) c.before.before.before.of_word.ensures c.before.refusal.given.1
+    reduces_nothing a.word.now a.out.now _ c.before.before.before.of_word.result (omega arith) c.before.before.before.of_word.ensures c.before.refusal.given.1
 
 same-length-2 : tie.Need-same-length-2
 same-length-2 c = search rules
@@ -63,7 +63,7 @@ returns-3 : tie.Need-returns-3
 returns-3 c =
     let told = c.before.before.before.before.before.before.before in
     let a = (start told).args in
-    reduces-word a.word.now a.out.now _ told.before.before.of_word.result (omega arith) told.before.before.of_word.ensures told.enum_told.given.1 _ _ c.before.before.before.reduce-on2.ensures
+    reduces_word a.word.now a.out.now _ told.before.before.of_word.result (omega arith) told.before.before.of_word.ensures told.enum_told.given.1 _ _ c.before.before.before.reduce-on2.ensures
 
 pub reduce-spec : {M : Type 1} → statement M
 reduce-spec =

@@ -2,7 +2,7 @@
 use mathlib.Core.Path.{sym, ◌∙◌}
 use lib.ListN.{length-map}
 use Rattle.words.specs.Bytes.{letter}
-use Rattle.words.proofs.Writing.{held_writes, held-accounts}
+use Rattle.words.proofs.Writing.{held_writes, held_accounts}
 use borrow.Author.Rules.{rules}
 use Rattle.words.proofs.reduce_on.Statement.{statement}
 use Rattle.words.proofs.reduce_on.Tie as tie
@@ -30,7 +30,7 @@ returns c =
     let w = c.before.before.before.before.before.before.before.before.before.before.before.before.before.before.args.word.now in
     let arrived = c.before.before.before.before.before.before.before.before.before.arrive-all.ensures in
     let told = held_writes _ _ _ _ arrived.0 _ _ _ c.before.before.write-out.ensures in
-    (told.0, (held-accounts _ _ _ _ arrived.0 _ _ (arrived.1.0 ∙ sym (length-map w letter)) arrived.1.1, told.1))
+    (told.0, (held_accounts _ _ _ _ arrived.0 _ _ (arrived.1.0 ∙ sym (length-map w letter)) arrived.1.1, told.1))
 
 pub reduce-on-spec : {M : Type 1} → statement M
 reduce-on-spec =

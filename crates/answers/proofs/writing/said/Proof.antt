@@ -10,14 +10,14 @@ use Rattle.answers.specs.declared.Answer.{Answer}
 use Rattle.answers.specs.declared.Answer.TheVariants.{Member}
 use mathlib.Core.Bool.{true}
 use lib.Seq.{length-take-le}
-use Rattle.answers.proofs.Members.{witnessed-bytes}
+use Rattle.answers.proofs.Members.{witnessed_bytes}
 use borrow.Author.Rules.{rules}
 use Rattle.answers.proofs.writing.said.Statement.{statement}
 use Rattle.answers.proofs.writing.said.Tie as tie
 
 -- a member that is witnessed has its factors
 has-factors : {answer : Answer} (witness : List ℕ) (count : Factors) → answer ≡ Member count → witnessed answer witness ≡ true → count.0 ≤ length witness
-has-factors witness count e h = witnessed-bytes count witness (rw e at h)
+has-factors witness count e h = witnessed_bytes count witness (rw e at h)
 
 enum-known-answer : tie.Need-enum-known-answer
 enum-known-answer c = search rules

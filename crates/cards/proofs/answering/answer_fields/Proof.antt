@@ -3,7 +3,7 @@ use mathlib.Core.Path.{refl}
 use lib.ListN.{drop}
 use borrow.Author.Rules.{rules}
 use Rattle.cards.specs.Card.{bound_field}
-use Rattle.cards.proofs.CardFields.{BoundStands, bound-cut-off, bound-stands}
+use Rattle.cards.proofs.CardFields.{BoundStands, bound_cut_off, bound_stands}
 use Rattle.cards.proofs.answering.answer_fields.Statement.{statement}
 use Rattle.cards.proofs.answering.answer_fields.Tie as tie
 
@@ -14,7 +14,7 @@ bound-read : (c : tie.After-known-told)
     → BoundStands (start c).args.card.now (bound_field (start c).args.map (drop 1 (start c).args.card.now)) c.before.n.given.0.0.0 c.before.n.given.0.1.0
 bound-read c =
     let a = (start c).args in
-    bound-stands a.card.now (bound_field a.map (drop 1 a.card.now)) c.before.before.before.bound.ensures c.before.n.given.1
+    bound_stands a.card.now (bound_field a.map (drop 1 a.card.now)) c.before.before.before.bound.ensures c.before.n.given.1
 
 bound-requires : tie.Need-bound-requires
 bound-requires c κs = search rules
@@ -31,7 +31,7 @@ answer-target-requires c κs = (bound-read c.before.before.before).within
 returns : tie.Need-returns
 returns c =
     let a = c.before.before.before.before.before.before.before.args in
-    rw (bound-cut-off a.card.now (bound_field a.map (drop 1 a.card.now)) c.before.before.bound.ensures c.enum_told.given.1) (refl, refl)
+    rw (bound_cut_off a.card.now (bound_field a.map (drop 1 a.card.now)) c.before.before.bound.ensures c.enum_told.given.1) (refl, refl)
 
 same_length : tie.Need-same-length
 same_length c = search rules

@@ -5,7 +5,7 @@ use native.Mathlib.Omega.{arith}
 use lib.ListN.{length}
 use borrow.Author.Rules.{rules}
 use Rattle.lists.proofs.FirstOthers.{part_slice}
-use Rattle.cards.proofs.CardFields.{letters-goal, entries-goal}
+use Rattle.cards.proofs.CardFields.{letters_goal, entries_goal}
 use Rattle.cards.proofs.answering.answer_goal.Statement.{statement}
 use Rattle.cards.proofs.answering.answer_goal.Tie as tie
 
@@ -22,7 +22,7 @@ places : (c : tie.After-known-told)
     → (c.before.goal.given.0.0 ≤ c.before.goal.given.0.1.0) × (c.before.goal.given.0.1.0 ≤ length (start c).args.card.now)
 places c =
     let (target, is) = (start c).requires.1 in
-    let (letters, rise, within) = letters-goal (start c).args.card.now target is c.before.goal.given.1 in
+    let (letters, rise, within) = letters_goal (start c).args.card.now target is c.before.goal.given.1 in
     (rise, within)
 
 enum-known-goal : tie.Need-enum-known-goal
@@ -61,7 +61,7 @@ returns c =
     let a = (start told).args in
     let (from, end) = told.before.goal.given.0 in
     λ list target listed is.
-    let (letters, rise, within) = letters-goal a.card.now target is told.before.goal.given.1 in
+    let (letters, rise, within) = letters_goal a.card.now target is told.before.goal.given.1 in
     rw (letters, sym (part_slice a.card.now from end.0 rise)) (c.before.before.before.before.before.before.answer-letters.ensures list listed)
 
 same-length-4 : tie.Need-same-length-4
@@ -77,7 +77,7 @@ returns-2 : tie.Need-returns-2
 returns-2 c =
     let told = c.before.before.before.before.before.before.before.before.before.before in
     λ list target listed is.
-    rw (entries-goal (begin told).args.card.now target is told.before.goal2.given.1) (c.before.before.before.before.before.before.answer-matrix.ensures list listed)
+    rw (entries_goal (begin told).args.card.now target is told.before.goal2.given.1) (c.before.before.before.before.before.before.answer-matrix.ensures list listed)
 
 pub answer-goal-spec : {M : Type 1} → statement M
 answer-goal-spec =

@@ -6,8 +6,8 @@ use lib.ListN.{length}
 use lib.Seq.{length-take-le}
 use Rattle.words.specs.Bytes.{word}
 use Rattle.engine.specs.Calls.{Lent, JudgesProduct}
-use Rattle.cards.proofs.FlatFronts.{flat-refused, listed-fronts, fronts-fit}
-use Rattle.cards.proofs.ProductAnswers.{list-refused}
+use Rattle.cards.proofs.FlatFronts.{flat_refused, listed_fronts, fronts_fit}
+use Rattle.cards.proofs.ProductAnswers.{list_refused}
 use borrow.Author.Rules.{rules}
 use Rattle.cards.proofs.answering.answer_letters.Statement.{statement}
 use Rattle.cards.proofs.answering.answer_letters.Tie as tie
@@ -38,7 +38,7 @@ room : (c : tie.After-total) → (total c ≤ length (letters c)) × ((start (ma
 room c =
     let a = (start (made c)).args in
     let f = (made c).flatten in
-    fronts-fit a.card.now a.start a.count _ _ _ _ _ f.ensures c.total.given.1 (start (made c)).requires f.kept.1.1.1.0 f.kept.1.1.1.1.0
+    fronts_fit a.card.now a.start a.count _ _ _ _ _ f.ensures c.total.given.1 (start (made c)).requires f.kept.1.1.1.0 f.kept.1.1.1.1.0
 
 -- ---- the needs
 
@@ -87,9 +87,9 @@ returns c =
     let f = c.before.before.before.before.before in
     let a = (start f).args in
     λ list listed.
-    list-refused a.n.0 list a.target.now (word a.target.now)
+    list_refused a.n.0 list a.target.now (word a.target.now)
     (record { first = a.first.now; second = a.second.now; witness = a.witness.now })
-    (flat-refused list _ _ _ _ _ (f.flatten.ensures list listed) c.before.refusal.given.1 a.target.now)
+    (flat_refused list _ _ _ _ _ (f.flatten.ensures list listed) c.before.refusal.given.1 a.target.now)
 
 same_length : tie.Need-same-length
 same_length c = search rules
@@ -108,7 +108,7 @@ returns-2 c =
     let before : Lent = record { first = a.first.now; second = a.second.now; witness = a.witness.now } in
     let after : Lent = record { first = j.new.1.1.1.1.0; second = j.new.1.1.1.1.1.0; witness = j.new.1.1.1.1.1.1.0 } in
     λ list listed.
-    let f = listed-fronts a.card.now a.start a.count _ _ _ _ _ (made told).flatten.ensures told.total.given.1 list listed in (
+    let f = listed_fronts a.card.now a.start a.count _ _ _ _ _ (made told).flatten.ensures told.total.given.1 list listed in (
       j.result,
       c.answered.ensures,
       subst₂ (λ (letters ends : List ℕ). JudgesProduct letters ends a.target.now (word a.target.now) a.n.0 j.result before after)

@@ -4,8 +4,8 @@ use Prim.Native.Nat.{ℕ}
 use lib.ListN.{drop}
 use borrow.Author.Rules.{rules}
 use Rattle.cards.specs.Card.{list_field}
-use Rattle.cards.proofs.CardFields.{ListStands, ListFills, list-cut-off, list-stands, list-fills}
-use Rattle.cards.proofs.CardEnds.{spare-byte}
+use Rattle.cards.proofs.CardFields.{ListStands, ListFills, list_cut_off, list_stands, list_fills}
+use Rattle.cards.proofs.CardEnds.{spare_byte}
 use Rattle.cards.proofs.answering.answer_list.Statement.{statement}
 use Rattle.cards.proofs.answering.answer_list.Tie as tie
 
@@ -20,13 +20,13 @@ list_read : (c : tie.After-known-told)
     c.before.count.given.0.1.0 (end c)
 list_read c =
     let a = (start c).args in
-    list-stands a.card.now (list_field a.map (drop a.at a.card.now)) c.before.before.before.list.ensures c.before.count.given.1
+    list_stands a.card.now (list_field a.map (drop a.at a.card.now)) c.before.before.before.list.ensures c.before.count.given.1
 
 -- where the card does not go on behind it
 list-filling : (c : tie.Else1)
     → ListFills (start c.before).args.card.now (list_field (start c.before).args.map (drop (start c.before).args.at (start c.before).args.card.now))
     c.before.before.count.given.0.0 c.before.before.count.given.0.1.0
-list-filling c = list-fills (start c.before).args.card.now (list_read c.before) (search rules)
+list-filling c = list_fills (start c.before).args.card.now (list_read c.before) (search rules)
 
 list-requires : tie.Need-list-requires
 list-requires c κs = search rules
@@ -44,7 +44,7 @@ returns c =
     let l = list_read told in
     λ target is.
     rw l.whole
-    (spare-byte (record { bound = a.n.0; target = target; list = l.list }) (record { first = a.first.now; second = a.second.now; witness = a.witness.now }) a.card.now (end told) (search rules))
+    (spare_byte (record { bound = a.n.0; target = target; list = l.list }) (record { first = a.first.now; second = a.second.now; witness = a.witness.now }) a.card.now (end told) (search rules))
 
 answer-goal-requires : tie.Need-answer-goal-requires
 answer-goal-requires c κs = let l = list-filling c.before.before.before in ((l.list, l.said), (start c.before.before.before.before).requires.1)
@@ -53,7 +53,7 @@ returns-2 : tie.Need-returns-2
 returns-2 c =
     let a = c.before.before.before.before.before.before.before.args in
     λ target is.
-    rw (list-cut-off a.card.now (list_field a.map (drop a.at a.card.now)) c.before.before.list.ensures c.enum_told.given.1) (refl, refl)
+    rw (list_cut_off a.card.now (list_field a.map (drop a.at a.card.now)) c.before.before.list.ensures c.enum_told.given.1) (refl, refl)
 
 same_length : tie.Need-same-length
 same_length c = search rules

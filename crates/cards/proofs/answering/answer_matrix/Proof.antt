@@ -10,8 +10,8 @@ use types.Run.{OneOf, miss}
 use Rattle.refusals.specs.contracts.Refusal.{the_type}
 use Rattle.refusals.specs.declared.Refusal.{Refusal}
 use Rattle.words.specs.declared.Written.TheVariants.{Refused as Written-as-Refused}
-use Rattle.matrices.proofs.TurnedMatrix.{turned-form, turned-length, turned-short}
-use Rattle.cards.proofs.MatrixAnswers.{form-answered, form-too-long, entries-refused}
+use Rattle.matrices.proofs.TurnedMatrix.{turned_form, turned_length, turned_short}
+use Rattle.cards.proofs.MatrixAnswers.{form_answered, form_too_long, entries_refused}
 use borrow.Author.Rules.{rules}
 use Rattle.cards.proofs.answering.answer_matrix.Statement.{statement}
 use Rattle.cards.proofs.answering.answer_matrix.Tie as tie
@@ -38,8 +38,8 @@ refused c = c.before.before.before.before.before.before
 room : (c : tie.After-t) → c.t.given.0.0.0 ≤ length (form c)
 room c =
     let r = (turned c).matrix-to-word in
-    let (w, p) = turned-form _ _ _ _ r.ensures c.t.given.1 in
-    omega (arith, turned-length _ _ _ _ r.ensures c.t.given.1 w p, turned-short _ _ _ _ r.ensures c.t.given.1 w p, r.kept.1.0)
+    let (w, p) = turned_form _ _ _ _ r.ensures c.t.given.1 in
+    omega (arith, turned_length _ _ _ _ r.ensures c.t.given.1 w p, turned_short _ _ _ _ r.ensures c.t.given.1 w p, r.kept.1.0)
 
 -- the variants of a refusal besides that of a normal form that is too long
 abbrev others : List ℕ
@@ -95,7 +95,7 @@ returns c =
     let t = told c.before.before.before.before.before.before in
     let a = (start (turned t)).args in
     λ list listed.
-    form-answered _ _ _ _ (turned t).matrix-to-word.ensures a.n.0 list t.t.given.1
+    form_answered _ _ _ _ (turned t).matrix-to-word.ensures a.n.0 list t.t.given.1
     (record { first = a.first.now; second = a.second.now; witness = a.witness.now })
     (record { first = l.new.1.1.1.1.1.0; second = l.new.1.1.1.1.1.1.0; witness = l.new.1.1.1.1.1.1.1.0 })
     (l.ensures list listed)
@@ -115,7 +115,7 @@ returns-2 c =
     let e = c.before.before.before.before.before.before.before.before.before.before.before in
     let a = (start (refused e)).args in
     λ list listed.
-    form-too-long _ _ _ _ (refused e).matrix-to-word.ensures a.n.0 list (omega arith)
+    form_too_long _ _ _ _ (refused e).matrix-to-word.ensures a.n.0 list (omega arith)
     (record { first = a.first.now; second = a.second.now; witness = a.witness.now })
     (e.before.before.before.refusal.given.1 ∙ ap Written-as-Refused e.enum_told.given.1)
     (record { first = l.new.1.1.1.1.1.0; second = l.new.1.1.1.1.1.1.0; witness = l.new.1.1.1.1.1.1.1.0 })
@@ -126,7 +126,7 @@ returns-3 c =
     let m = c.before.before.before.before.before in
     let a = (start m).args in
     λ list listed.
-    entries-refused _ _ _ _ m.matrix-to-word.ensures a.n.0 list (omega arith)
+    entries_refused _ _ _ _ m.matrix-to-word.ensures a.n.0 list (omega arith)
     (record { first = a.first.now; second = a.second.now; witness = a.witness.now })
     c.before.before.refusal.given.1 (λ e. miss others 11 tt (subst (λ (x : Refusal). OneOf others (tag_of the_type x)) e c.match2.keys2))
 

@@ -3,7 +3,7 @@ use mathlib.Core.Path.{refl}
 use lib.ListN.{drop}
 use borrow.Author.Rules.{rules}
 use Rattle.cards.specs.Card.{target_field}
-use Rattle.cards.proofs.CardFields.{TargetStands, target-cut-off, target-stands}
+use Rattle.cards.proofs.CardFields.{TargetStands, target_cut_off, target_stands}
 use Rattle.cards.proofs.answering.answer_target.Statement.{statement}
 use Rattle.cards.proofs.answering.answer_target.Tie as tie
 
@@ -15,7 +15,7 @@ target-read : (c : tie.After-known-told)
     c.before.goal.given.0.1.0
 target-read c =
     let a = (start c).args in
-    target-stands a.card.now (target_field a.map (drop a.at a.card.now)) c.before.before.before.target.ensures c.before.goal.given.1
+    target_stands a.card.now (target_field a.map (drop a.at a.card.now)) c.before.before.before.target.ensures c.before.goal.given.1
 
 target-requires : tie.Need-target-requires
 target-requires c κs = search rules
@@ -32,7 +32,7 @@ answer-list-requires c κs = let t = target-read c.before.before.before in (t.wi
 returns : tie.Need-returns
 returns c =
     let a = c.before.before.before.before.before.before.before.args in
-    rw (target-cut-off a.card.now (target_field a.map (drop a.at a.card.now)) c.before.before.target.ensures c.enum_told.given.1) (refl, refl)
+    rw (target_cut_off a.card.now (target_field a.map (drop a.at a.card.now)) c.before.before.target.ensures c.enum_told.given.1) (refl, refl)
 
 same_length : tie.Need-same-length
 same_length c = search rules

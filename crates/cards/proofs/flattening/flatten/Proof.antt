@@ -1,8 +1,8 @@
 -- `count` is the number of generators, and what `count_letters` answers that of letters. Assumes nothing.
 use native.Mathlib.Omega.{arith}
 use borrow.Author.Rules.{rules}
-use Rattle.cards.proofs.FlatAnswers.{too-many-generators, counted-letters, letters-refused, flattened}
-use Rattle.cards.proofs.GeneratorFields.{listed-count}
+use Rattle.cards.proofs.FlatAnswers.{too_many_generators, counted_letters, letters_refused, flattened}
+use Rattle.cards.proofs.GeneratorFields.{listed_count}
 use Rattle.cards.proofs.flattening.flatten.Statement.{statement}
 use Rattle.cards.proofs.flattening.flatten.Tie as tie
 
@@ -13,7 +13,7 @@ start c = c.before.before.before.before.before.before.before
 returns : tie.Need-returns
 returns c =
     let a = c.before.before.before.before.args in
-    λ list listed. too-many-generators list a.letters.now a.ends.now (omega (arith, listed-count a.card.now a.start a.count listed))
+    λ list listed. too_many_generators list a.letters.now a.ends.now (omega (arith, listed_count a.card.now a.start a.count listed))
 
 count-letters-requires : tie.Need-count-letters-requires
 count-letters-requires c κs = search rules
@@ -30,15 +30,15 @@ write-list-requires c κs =
     let a = (start told).args in
     let p = (start told).requires in
     let (list, listed) = p.0 in
-    let (few, all) = counted-letters list a.letters.now a.ends.now (told.before.before.count-letters.ensures list listed) told.total.given.1 in
+    let (few, all) = counted_letters list a.letters.now a.ends.now (told.before.before.count-letters.ensures list listed) told.total.given.1 in
     ((list, listed, few), (p.1.0, omega (arith, p.1.1)))
 
 returns-2 : tie.Need-returns-2
 returns-2 c =
     let a = c.before.before.before.before.before.before.before.before.args in
     λ list listed.
-    letters-refused list a.letters.now a.ends.now (c.before.before.before.count-letters.ensures list listed)
-    (omega (arith, listed-count a.card.now a.start a.count listed)) c.before.refusal.given.1
+    letters_refused list a.letters.now a.ends.now (c.before.before.before.count-letters.ensures list listed)
+    (omega (arith, listed_count a.card.now a.start a.count listed)) c.before.refusal.given.1
 
 same_length : tie.Need-same-length
 same_length c = search rules
@@ -52,7 +52,7 @@ returns-3 c =
     let a = (start told).args in
     λ list listed.
     flattened list a.letters.now a.ends.now (told.before.before.count-letters.ensures list listed)
-    (omega (arith, listed-count a.card.now a.start a.count listed)) told.total.given.1
+    (omega (arith, listed_count a.card.now a.start a.count listed)) told.total.given.1
     (c.before.before.before.before.write-list.ensures list listed)
 
 pub flatten-spec : {M : Type 1} → statement M

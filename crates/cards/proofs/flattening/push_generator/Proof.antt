@@ -9,7 +9,7 @@ use lib.Seq.{paste}
 use Rattle.slices.proofs.Slices.{pasted}
 use Rattle.lists.proofs.FirstOthers.{part_slice}
 use Rattle.cards.specs.Flattening.{GeneratorAt}
-use Rattle.cards.proofs.GeneratorSpans.{Spanned, not-cut, spanned}
+use Rattle.cards.proofs.GeneratorSpans.{Spanned, not_cut, spanned}
 use Rattle.cards.proofs.flattening.push_generator.Statement.{statement}
 use Rattle.cards.proofs.flattening.push_generator.Tie as tie
 
@@ -82,7 +82,7 @@ returns c =
     let entry = c.before.before.before.before.before.before in
     let a = entry.args in
     let read = c.before.before.letters-after in
-    absurd (not-cut a.card.now a.at entry.requires.0.2 read.result read.ensures c.enum_told.given.1)
+    absurd (not_cut a.card.now a.at entry.requires.0.2 read.result read.ensures c.enum_told.given.1)
 
 same_length : tie.Need-same-length
 same_length c = search rules

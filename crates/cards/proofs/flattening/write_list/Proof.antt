@@ -7,7 +7,7 @@ use borrow.Author.Rules.{rules}
 use lib.ListN.{length}
 use Rattle.limits.specs.Limits.{most_letters}
 use Rattle.cards.specs.Reading.{Listed}
-use Rattle.cards.proofs.PushingList.{Pushing, pushing_begins, pushing-short, pushing-place, pushing-sum, pushing-more, pushing-over}
+use Rattle.cards.proofs.PushingList.{Pushing, pushing_begins, pushing_short, pushing_place, pushing_sum, pushing_more, pushing_over}
 use Rattle.cards.proofs.flattening.write_list.Statement.{statement}
 use Rattle.cards.proofs.flattening.write_list.Tie as tie
 
@@ -30,7 +30,7 @@ push-generator-requires c κs =
     let l = c.before.before.before.loop in
     let more : l.i < entry.args.count = omega arith in
     let (list, listed, few) = entry.requires.0 in
-    (pushing-short (l.invariant.3 list listed) more few, (omega arith, omega arith))
+    (pushing_short (l.invariant.3 list listed) more few, (omega arith, omega arith))
 
 -- ---- the point that the needs look back to: one generator more is pushed
 
@@ -49,12 +49,12 @@ more c = omega arith
 place : (c : Pushed) → (turn c).loop.at + 2 + c.push-generator.result.0 ≤ length (begin c).args.card.now
 place c =
     let (list, listed, few) = (begin c).requires.0 in
-    pushing-place ((turn c).loop.invariant.3 list listed) (more c) c.push-generator.ensures
+    pushing_place ((turn c).loop.invariant.3 list listed) (more c) c.push-generator.ensures
 
 sum_fits : (c : Pushed) → (turn c).loop.sum.0 + c.push-generator.result.0 ≤ most_letters
 sum_fits c =
     let (list, listed, few) = (begin c).requires.0 in
-    omega (arith, few, pushing-sum ((turn c).loop.invariant.3 list listed) (more c) c.push-generator.ensures)
+    omega (arith, few, pushing_sum ((turn c).loop.invariant.3 list listed) (more c) c.push-generator.ensures)
 
 -- ---- the other needs
 
@@ -89,7 +89,7 @@ loop-again c =
       λ list listed.
           subst
           (λ (k : ℕ). Pushing a.card.now a.count list a.letters.now a.ends.now w.new.1.1.0 w.new.1.1.1.1.0 (l.at + 2 + k) (l.sum.0 + w.result.0) (l.i + 1))
-          (sym c.before.before.wide.ensures) (pushing-more (l.inv.3 list listed) (more pushed) w.ensures room),
+          (sym c.before.before.wide.ensures) (pushing_more (l.inv.3 list listed) (more pushed) w.ensures room),
     )
 
 same_length : tie.Need-same-length invariant-loop decreases-loop
@@ -102,7 +102,7 @@ returns : tie.Need-returns invariant-loop decreases-loop
 returns c =
     let l = c.before.loop in
     let over : l.i ≡ c.before.before.before.before.before.args.count = omega arith in
-    λ list listed. pushing-over (l.invariant.3 list listed) over
+    λ list listed. pushing_over (l.invariant.3 list listed) over
 
 pub write-list-spec : {M : Type 1} → statement M
 write-list-spec =

@@ -4,7 +4,7 @@ use mathlib.Core.Path.{◌≡◌, refl, sym, ◌∙◌}
 use mathlib.Core.Bool.{true, false}
 use borrow.Author.Rules.{rules}
 use Rattle.cards.specs.Card.{bit}
-use Rattle.cards.proofs.PlacedBounds.{bound-cut, bound-whole}
+use Rattle.cards.proofs.PlacedBounds.{bound_cut, bound_whole}
 use Rattle.cards.proofs.reading.bound.Statement.{statement}
 use Rattle.cards.proofs.reading.bound.Tie as tie
 
@@ -24,13 +24,13 @@ returns : tie.Need-returns
 returns c =
     let a = c.before.before.before.before.before.before.args in
     let set : bit 1 a.map ≡ true = sym c.before.before.before.before.has.ensures ∙ c.before.before.before.if1.true in
-    rw set (bound-cut a.card.now (sym c.enum_told.given.1 ∙ c.before.before.short-after.ensures))
+    rw set (bound_cut a.card.now (sym c.enum_told.given.1 ∙ c.before.before.short-after.ensures))
 
 returns-2 : tie.Need-returns-2
 returns-2 c =
     let a = c.before.before.before.before.before.before.before.args in
     let set : bit 1 a.map ≡ true = sym c.before.before.before.before.before.has.ensures ∙ c.before.before.before.before.if1.true in
-    rw set (bound-whole a.card.now (sym c.before.n.given.1 ∙ c.before.before.before.short-after.ensures))
+    rw set (bound_whole a.card.now (sym c.before.n.given.1 ∙ c.before.before.before.short-after.ensures))
 
 returns-3 : tie.Need-returns-3
 returns-3 c =

@@ -7,7 +7,7 @@ use lib.ListN.{drop}
 use borrow.Author.Rules.{rules}
 use Rattle.fields.specs.Field.{number_field}
 use Rattle.cards.proofs.AnsweredFields.{no_byte, ByteAt, byte_said}
-use Rattle.cards.proofs.PlacedLists.{no_number, list-cut, list-whole}
+use Rattle.cards.proofs.PlacedLists.{no_number, list_cut, list_whole}
 use Rattle.cards.proofs.reading.counted_list.Statement.{statement}
 use Rattle.cards.proofs.reading.counted_list.Tie as tie
 
@@ -54,13 +54,13 @@ returns-2 : tie.Need-returns-2
 returns-2 c =
     let a = c.before.before.before.before.before.before.before.before.args in
     let numbered = c.before.before.before in
-    list-cut a.card.now a.at numbered.before.count.given.0.0 (a.at + 1) (counted numbered).0 c.before.before.skip.ensures c.enum-told2.given.1
+    list_cut a.card.now a.at numbered.before.count.given.0.0 (a.at + 1) (counted numbered).0 c.before.before.skip.ensures c.enum-told2.given.1
 
 returns-3 : tie.Need-returns-3
 returns-3 c =
     let a = c.before.before.before.before.before.before.before.before.before.args in
     let numbered = c.before.before.before.before in
-    list-whole a.card.now a.at numbered.before.count.given.0.0 (a.at + 1) (counted numbered).0 c.before.before.before.skip.ensures (counted numbered).1
+    list_whole a.card.now a.at numbered.before.count.given.0.0 (a.at + 1) (counted numbered).0 c.before.before.before.skip.ensures (counted numbered).1
     c.before.end.given.1
 
 pub counted-list-spec : {M : Type 1} → statement M

@@ -1,7 +1,7 @@
 -- `cards::reading::letters_target` meets its contract: what `letters_after` answers says where the letters stand.
 -- Assumes nothing.
 use borrow.Author.Rules.{rules}
-use Rattle.cards.proofs.PlacedTargets.{letters-cut, letters-whole}
+use Rattle.cards.proofs.PlacedTargets.{letters_cut, letters_whole}
 use Rattle.cards.proofs.reading.letters_target.Statement.{statement}
 use Rattle.cards.proofs.reading.letters_target.Tie as tie
 
@@ -17,12 +17,12 @@ enum-known-start c = search rules
 returns : tie.Need-returns
 returns c =
     let a = c.before.before.before.before.args in
-    letters-cut a.card.now a.at c.before.before.letters-after.ensures c.enum_told.given.1
+    letters_cut a.card.now a.at c.before.before.letters-after.ensures c.enum_told.given.1
 
 returns-2 : tie.Need-returns-2
 returns-2 c =
     let a = c.before.before.before.before.before.args in
-    letters-whole a.card.now a.at c.before.before.before.letters-after.ensures c.before.start.given.1
+    letters_whole a.card.now a.at c.before.before.before.letters-after.ensures c.before.start.given.1
 
 pub letters-target-spec : {M : Type 1} → statement M
 letters-target-spec =

@@ -6,7 +6,7 @@ use native.Mathlib.Omega.{arith}
 use lib.IntN.{ℤ}
 use borrow.Author.Rules.{rules}
 use Rattle.cards.proofs.AnsweredFields.{SignedAt, signed_said}
-use Rattle.cards.proofs.FourNumbers.{first-cut, second-cut, third-cut, fourth-cut, all_whole}
+use Rattle.cards.proofs.FourNumbers.{first_cut, second_cut, third_cut, fourth_cut, all_whole}
 use Rattle.cards.proofs.reading.matrix_after.Statement.{statement}
 use Rattle.cards.proofs.reading.matrix_after.Tie as tie
 
@@ -98,14 +98,14 @@ enum-known-d c = search rules
 returns : tie.Need-returns
 returns c =
     let a = c.before.before.before.before.args in
-    first-cut a.card.now a.at
+    first_cut a.card.now a.at
     (sym c.enum_told.given.1 ∙ c.before.before.signed-after.ensures)
 
 returns-2 : tie.Need-returns-2
 returns-2 c =
     let at_a = c.before.before.before in
     let a = (start at_a).args in
-    second-cut a.card.now a.at at_a.before.a.given.0.0 (first at_a)
+    second_cut a.card.now a.at at_a.before.a.given.0.0 (first at_a)
     (sym c.enum-told2.given.1 ∙ c.before.before.signed-after2.ensures)
 
 returns-3 : tie.Need-returns-3
@@ -113,7 +113,7 @@ returns-3 c =
     let at_b = c.before.before.before in
     let at_a = one at_b in
     let a = (start at_a).args in
-    third-cut a.card.now a.at at_a.before.a.given.0.0 (first at_a) at_b.before.b.given.0.0 (second at_b)
+    third_cut a.card.now a.at at_a.before.a.given.0.0 (first at_a) at_b.before.b.given.0.0 (second at_b)
     (sym c.enum-told3.given.1 ∙ c.before.before.signed-after3.ensures)
 
 returns-4 : tie.Need-returns-4
@@ -122,7 +122,7 @@ returns-4 c =
     let at_b = two at_c in
     let at_a = one at_b in
     let a = (start at_a).args in
-    fourth-cut a.card.now a.at at_a.before.a.given.0.0 (first at_a) at_b.before.b.given.0.0 (second at_b) at_c.before.c.given.0.0 (third at_c)
+    fourth_cut a.card.now a.at at_a.before.a.given.0.0 (first at_a) at_b.before.b.given.0.0 (second at_b) at_c.before.c.given.0.0 (third at_c)
     (sym c.enum-told4.given.1 ∙ c.before.before.signed-after4.ensures)
 
 returns-5 : tie.Need-returns-5

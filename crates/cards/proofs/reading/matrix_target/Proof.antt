@@ -4,8 +4,8 @@ use native.Mathlib.Omega.{arith}
 use lib.ListN.{drop}
 use borrow.Author.Rules.{rules}
 use Rattle.cards.specs.Card.{matrix_field}
-use Rattle.cards.proofs.AnsweredFields.{matrix-said}
-use Rattle.cards.proofs.PlacedTargets.{matrix-cut, matrix-whole}
+use Rattle.cards.proofs.AnsweredFields.{matrix_said}
+use Rattle.cards.proofs.PlacedTargets.{matrix_cut, matrix_whole}
 use Rattle.cards.proofs.reading.matrix_target.Statement.{statement}
 use Rattle.cards.proofs.reading.matrix_target.Tie as tie
 
@@ -21,17 +21,17 @@ enum-known-m c = search rules
 add-t7 : tie.Need-overflow-add-t7
 add-t7 c =
     let a = c.before.before.before.before.before.args in
-    record { fits = omega (arith, (matrix-said a.card.now a.at (matrix_field (drop a.at a.card.now)) c.before.before.before.matrix-after.ensures c.before.m.given.1).1) }
+    record { fits = omega (arith, (matrix_said a.card.now a.at (matrix_field (drop a.at a.card.now)) c.before.before.before.matrix-after.ensures c.before.m.given.1).1) }
 
 returns : tie.Need-returns
 returns c =
     let a = c.before.before.before.before.args in
-    matrix-cut a.card.now a.at c.before.before.matrix-after.ensures c.enum_told.given.1
+    matrix_cut a.card.now a.at c.before.before.matrix-after.ensures c.enum_told.given.1
 
 returns-2 : tie.Need-returns-2
 returns-2 c =
     let a = c.before.before.before.before.before.args in
-    matrix-whole a.card.now a.at c.before.before.before.matrix-after.ensures c.before.m.given.1
+    matrix_whole a.card.now a.at c.before.before.before.matrix-after.ensures c.before.m.given.1
 
 pub matrix-target-spec : {M : Type 1} → statement M
 matrix-target-spec =

@@ -4,7 +4,7 @@ use mathlib.Core.Path.{◌≡◌}
 use Prim.Native.Nat.{zero, suc, ◌-◌}
 use native.Mathlib.Omega.{arith}
 use borrow.Author.Rules.{rules}
-use Rattle.cards.proofs.PlacedLists.{Remaining, one-cut, one-passed, none-remains}
+use Rattle.cards.proofs.PlacedLists.{Remaining, one_cut, one_passed, none_remains}
 use Rattle.cards.proofs.reading.skip.Statement.{statement}
 use Rattle.cards.proofs.reading.skip.Tie as tie
 
@@ -28,7 +28,7 @@ returns c =
     let a = c.before.before.before.before.before.before.args in
     let at-loop = c.before.before.before.before.loop in
     let left : at-loop.left ≡ suc (at-loop.left - 1) = omega arith in
-    one-cut a.card.now a.count a.at at-loop.left (at-loop.left - 1) at-loop.end left at-loop.invariant c.before.before.letters-after.ensures
+    one_cut a.card.now a.count a.at at-loop.left (at-loop.left - 1) at-loop.end left at-loop.invariant c.before.before.letters-after.ensures
     c.enum_told.given.1
 
 enum-known-next : tie.Need-enum-known-next invariant-loop decreases-loop
@@ -45,7 +45,7 @@ loop-again c =
     let a = c.before.before.before.before.before.before.before.args in
     let at-loop = c.before.before.before.before.before.loop in
     let left : at-loop.left ≡ suc (at-loop.left - 1) = omega arith in
-    one-passed a.card.now a.count a.at at-loop.left (at-loop.left - 1) at-loop.end left at-loop.invariant c.before.before.before.letters-after.ensures
+    one_passed a.card.now a.count a.at at-loop.left (at-loop.left - 1) at-loop.end left at-loop.invariant c.before.before.before.letters-after.ensures
     c.before.next.given.1
 
 returns-2 : tie.Need-returns-2 invariant-loop decreases-loop
@@ -53,7 +53,7 @@ returns-2 c =
     let a = c.before.before.before.args in
     let at-loop = c.before.loop in
     let none : at-loop.left ≡ zero = omega arith in
-    none-remains a.card.now a.count a.at at-loop.end (rw none at at-loop.invariant)
+    none_remains a.card.now a.count a.at at-loop.end (rw none at at-loop.invariant)
 
 pub skip-spec : {M : Type 1} → statement M
 skip-spec =

@@ -8,7 +8,7 @@ use Rattle.refusals.specs.declared.Asked.TheVariants.{Passed}
 use Rattle.products.specs.Product.{plain}
 use Rattle.sizes.specs.Questions.{side, of_sizes}
 use Rattle.engine.specs.Calls.{Lent}
-use Rattle.engine.proofs.Verdicts.{judged-refused, judged-passed}
+use Rattle.engine.proofs.Verdicts.{judged_refused, judged_passed}
 use borrow.Author.Rules.{rules}
 use Rattle.engine.proofs.judging.judge_form.Statement.{statement}
 use Rattle.engine.proofs.judging.judge_form.Tie as tie
@@ -59,7 +59,7 @@ returns c =
     let s = begun sizes in
     let a = s.args in
     λ gens ready.
-    judged-refused (q s) (plain gens) (word a.form.now) a.n.0 (answered s) (lent s)
+    judged_refused (q s) (plain gens) (word a.form.now) a.n.0 (answered s) (lent s)
     (rw (length-map a.form.now letter) (sym sizes.of-sizes.ensures ∙ c.before.refusal.given.1))
 
 same_length : tie.Need-same-length
@@ -80,7 +80,7 @@ returns-2 c =
     let v = settled.settle in
     let last = v.new.1.1.1.1.1.1.1.1.1 in
     λ gens ready.
-    judged-passed (q s) (plain gens) (word a.form.now) a.n.0 (answered s) v.result (lent s)
+    judged_passed (q s) (plain gens) (word a.form.now) a.n.0 (answered s) v.result (lent s)
     (record { first = last.0; second = last.1.0; witness = last.1.1.0 })
     (passed told) (v.ensures gens ready (passed told))
 

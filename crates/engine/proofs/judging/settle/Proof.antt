@@ -7,7 +7,7 @@ use Rattle.products.specs.Product.{plain}
 use Rattle.sizes.specs.Questions.{side}
 use Rattle.sizes.proofs.Passing.{SizesPassed, sizes_passed}
 use Rattle.engine.specs.Calls.{Lent}
-use Rattle.engine.proofs.Verdicts.{judged-settled}
+use Rattle.engine.proofs.Verdicts.{judged_settled}
 use native.Mathlib.Omega.{arith}
 use borrow.Author.Rules.{rules}
 use Rattle.engine.proofs.judging.settle.Statement.{statement}
@@ -72,7 +72,7 @@ returns-2 c =
     λ gens ready passed.
     let room : SizesPassed a.m.0 (length (word a.form.now)) a.n.0 (length a.first.now) (length a.second.now) (length a.witness.now) =
     sizes_passed a.m.0 (length (word a.form.now)) a.n.0 (length a.first.now) (length a.second.now) (length a.witness.now) passed in
-    judged-settled (side a.m.0 (length (word a.form.now))) (plain gens) (word a.form.now) a.n.0 d.result (lent s)
+    judged_settled (side a.m.0 (length (word a.form.now))) (plain gens) (word a.form.now) a.n.0 d.result (lent s)
     (record { first = first; second = second; witness = witness })
     (record { first = zero-first.last.0; second = zero-second.new.0; witness = witness })
     (rw same (d.ensures gens a.m.0 ready (rw same at passed)))

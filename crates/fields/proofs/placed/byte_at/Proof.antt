@@ -5,8 +5,8 @@ use native.Mathlib.Omega.{arith}
 use borrow.Author.Rules.{rules}
 use Rattle.fields.specs.Answers.{byte_of}
 use Rattle.fields.specs.declared.Byte.TheVariants.{Whole}
-use Rattle.fields.proofs.Reading.{number-whole, number_cut}
-use Rattle.fields.proofs.PlacedNumbers.{byte-there}
+use Rattle.fields.proofs.Reading.{number_whole, number_cut}
+use Rattle.fields.proofs.PlacedNumbers.{byte_there}
 use Rattle.fields.proofs.placed.byte_at.Statement.{statement}
 use Rattle.fields.proofs.placed.byte_at.Tie as tie
 
@@ -16,7 +16,7 @@ shared-slice-read-t6 c = search rules
 returns : tie.Need-returns
 returns c =
     let a = c.before.before.args in
-    sym (ap byte_of (number-whole 1 a.card.now a.at (omega arith)) ∙ ap Whole (byte-there a.card.now a.at c.before.if1.true))
+    sym (ap byte_of (number_whole 1 a.card.now a.at (omega arith)) ∙ ap Whole (byte_there a.card.now a.at c.before.if1.true))
 
 returns-2 : tie.Need-returns-2
 returns-2 c =

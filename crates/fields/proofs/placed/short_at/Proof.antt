@@ -5,7 +5,7 @@ use native.Mathlib.Omega.{arith}
 use borrow.Author.Rules.{rules}
 use Rattle.fields.specs.Answers.{short_of}
 use Rattle.fields.specs.declared.Short.TheVariants.{Whole}
-use Rattle.fields.proofs.Reading.{number-whole, number_cut}
+use Rattle.fields.proofs.Reading.{number_whole, number_cut}
 use Rattle.fields.proofs.PlacedNumbers.{short_there}
 use Rattle.fields.proofs.placed.short_at.Statement.{statement}
 use Rattle.fields.proofs.placed.short_at.Tie as tie
@@ -39,7 +39,7 @@ returns-3 : tie.Need-returns-3
 returns-3 c =
     let a = c.before.before.before.before.before.before.args in
     ap Whole (c.joined.ensures ∙ sym (short_there a.card.now a.at (omega arith)))
-    ∙ sym (ap short_of (number-whole 2 a.card.now a.at (omega arith)))
+    ∙ sym (ap short_of (number_whole 2 a.card.now a.at (omega arith)))
 
 pub short-at-spec : {M : Type 1} → statement M
 short-at-spec =

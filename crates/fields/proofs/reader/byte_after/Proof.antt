@@ -7,7 +7,7 @@ use Rattle.fields.specs.contracts.Byte as S
 use Rattle.fields.proofs.Byte.TheLaws as S'
 use Rattle.fields.proofs.ReaderContracts.{AtReader}
 use Rattle.fields.proofs.NumberAnswers.{byte_answer, byte_typed}
-use Rattle.fields.proofs.PutTogether.{put-together-meets}
+use Rattle.fields.proofs.PutTogether.{put_together_meets}
 use Rattle.fields.proofs.reader.next_byte.Symbol as callee
 use Rattle.fields.proofs.reader.next_byte.Met as callee-thm
 use Rattle.fields.specs.contracts.reader.byte_after.Key as key
@@ -20,5 +20,5 @@ unfolding code.routine tables_of
 byte-after-spec 𝓤 𝓛 𝓜 𝓡 =
     entered 𝓤 𝓛.H (triple_of 𝓛 after.signature (after.spec 𝓛 𝓜.mem 𝓡.run))
     (tables 𝓤 𝓛.H 𝓜 𝓡 code.env).C (tables 𝓤 𝓛.H 𝓜 𝓡 code.env).Λ key.name code.function (code.unfolded 𝓤 𝓛.H 𝓜 𝓡)
-    (put-together-meets S.the_row S'.mir byte_answer callee.name 𝓛 (byte_typed 𝓛) (tables_of 𝓤 𝓛.H 𝓜 (tables 𝓤 𝓛.H 𝓜 𝓡 code.env))
+    (put_together_meets S.the_row S'.mir byte_answer callee.name 𝓛 (byte_typed 𝓛) (tables_of 𝓤 𝓛.H 𝓜 (tables 𝓤 𝓛.H 𝓜 𝓡 code.env))
     (cited 𝓤 𝓛.H (AtReader S.the_row byte_answer 𝓤 𝓛) 𝓜 𝓡 code.env callee.name callee.routine code.calls-fields::reader::next-byte (callee-thm.met 𝓤 𝓛 𝓜 𝓡)))

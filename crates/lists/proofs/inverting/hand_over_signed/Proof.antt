@@ -12,7 +12,7 @@ use Rattle.lists.specs.NormalList.{total, normal_bytes, normal_ends}
 use Rattle.lists.specs.Reducing.{ReducedFrom, InFront}
 use Rattle.lists.specs.Calls.{lengths_or}
 use Rattle.lists.proofs.Answering.{handed}
-use Rattle.lists.proofs.InverseForms.{ends-count, letters-count, letters-short, signed-count, signed-total}
+use Rattle.lists.proofs.InverseForms.{ends_count, letters_count, letters_short, signed_count, signed_total}
 use native.Mathlib.Omega.{arith}
 use borrow.Author.Rules.{rules}
 use Rattle.lists.proofs.inverting.hand_over_signed.Statement.{statement}
@@ -41,12 +41,12 @@ out-ends c = (signed c).write-signed.new.1.1.1.0
 fits : (c : tie.After-wide) → c.wide.result ≤ length (out c)
 fits c =
     let r = (start c).requires.1 in
-    omega (arith, c.wide.ensures, ((signed c).write-signed.ensures (start c).requires.0 r).sums, signed-total (start c).requires.0 r, (signed c).write-signed.auto.1.1.0)
+    omega (arith, c.wide.ensures, ((signed c).write-signed.ensures (start c).requires.0 r).sums, signed_total (start c).requires.0 r, (signed c).write-signed.auto.1.1.0)
 
 ends-fit : (c : tie.After-wide) → 2 * length (ends c) ≤ length (out-ends c)
 ends-fit c =
     let r = (start c).requires.1 in
-    omega (arith, ends-count (start c).requires.0 r, r.few, (signed c).write-signed.auto.1.1.1.0)
+    omega (arith, ends_count (start c).requires.0 r, r.few, (signed c).write-signed.auto.1.1.1.0)
 
 -- the generators are any that have the reduced list's forms
 module _ (c : tie.After-wide) (gens : List Word) (r : ReducedFrom gens (letters c) (ends c)) where
@@ -58,7 +58,7 @@ module _ (c : tie.After-wide) (gens : List Word) (r : ReducedFrom gens (letters 
 
   form-ends : take (2 * length (ends c)) (out-ends c) ≡ normal_ends 0 (with_inverses gens)
   form-ends =
-      let count : 2 * length (ends c) ≡ length (with_inverses gens) = omega (arith, signed-count gens r) in
+      let count : 2 * length (ends c) ≡ length (with_inverses gens) = omega (arith, signed_count gens r) in
       ap (λ (n : ℕ). take n (out-ends c)) count ∙ stands.ends
 
 -- ---- the needs
@@ -104,7 +104,7 @@ enum_told c = search rules
 cast-t27 : tie.Need-overflow-cast-t27
 cast-t27 c =
     let t = c.before.before.before.before.before.before.before.before.before.before.before in
-    omega (arith, letters-short (start t).requires.0 (start t).requires.1)
+    omega (arith, letters_short (start t).requires.0 (start t).requires.1)
 
 same_length : tie.Need-same-length
 same_length c = search rules
@@ -133,7 +133,7 @@ returns-2 c =
     λ gens r.
     handed (λ (q : Asked). lengths_or q (total gens) (total (with_inverses gens))) (normal_bytes (with_inverses gens)) (normal_ends 0 (with_inverses gens)) a.out.now a.out-ends.now
     c.before.before.before.before.before.before.hand-over.ensures (forms t gens r) (form-ends t gens r) refl c.enum_told.given.1
-    (ap₂ (λ (given all : ℕ). Lengths (record { 0 = given }) (record { 0 = all })) (letters-count gens r) (stands t gens r).sums)
+    (ap₂ (λ (given all : ℕ). Lengths (record { 0 = given }) (record { 0 = all })) (letters_count gens r) (stands t gens r).sums)
 
 pub hand-over-signed-spec : {M : Type 1} → statement M
 hand-over-signed-spec =

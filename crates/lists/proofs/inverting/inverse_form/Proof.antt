@@ -1,6 +1,6 @@
 -- The questions of inversion are all answered yes. Assumes nothing.
 use Rattle.words.specs.Word.{Word, nf, inverse}
-use Rattle.lists.proofs.NormalForms.{form-written, not-refused}
+use Rattle.lists.proofs.NormalForms.{form_written, not_refused}
 use native.Mathlib.Omega.{arith}
 use borrow.Author.Rules.{rules}
 use Rattle.lists.proofs.inverting.inverse_form.Statement.{statement}
@@ -42,7 +42,7 @@ returns c =
     let a = s.args in
     let p = s.requires in
     let m = c.before.before.before.before.before.invert in
-    form-written (λ (w : Word). nf (inverse w)) 2 a.letters.now a.from a.end a.out.now a.at m.result m.new.1.0 p.0 p.1.0 p.1.1.0 p.1.1.1.0 (omega arith) m.ensures
+    form_written (λ (w : Word). nf (inverse w)) 2 a.letters.now a.from a.end a.out.now a.at m.result m.new.1.0 p.0 p.1.0 p.1.1.0 p.1.1.1.0 (omega arith) m.ensures
     c.before.len.given.1
 
 same-length-2 : tie.Need-same-length-2
@@ -54,7 +54,7 @@ returns-2 c =
     let a = s.args in
     let p = s.requires in
     let m = c.before.before.before.before.invert in
-    absurd (not-refused (λ (w : Word). nf (inverse w)) 2 a.letters.now a.from a.end a.out.now a.at m.result m.new.1.0 p.0 p.1.0 p.1.1.0 p.1.1.1.0 (omega arith) m.ensures _ c.enum_told.given.1)
+    absurd (not_refused (λ (w : Word). nf (inverse w)) 2 a.letters.now a.from a.end a.out.now a.at m.result m.new.1.0 p.0 p.1.0 p.1.1.0 p.1.1.1.0 (omega arith) m.ensures _ c.enum_told.given.1)
 
 pub inverse-form-spec : {M : Type 1} → statement M
 inverse-form-spec =

@@ -10,8 +10,8 @@ use Rattle.words.specs.Word.{Word, nf, inverse}
 use Rattle.words.specs.Bytes.{word, bytes}
 use Rattle.lists.specs.Reducing.{ReducedFrom}
 use Rattle.slices.proofs.Slices.{pasted_front}
-use Rattle.lists.proofs.Behind.{behind-from, behind-within}
-use Rattle.lists.proofs.InverseForms.{Inverting, ends-count, letters-short, letters-all, inverting_begins, inverting-sum, inverting-all, inverting-short, inverting-more}
+use Rattle.lists.proofs.Behind.{behind_from, behind_within}
+use Rattle.lists.proofs.InverseForms.{Inverting, ends_count, letters_short, letters_all, inverting_begins, inverting_sum, inverting_all, inverting_short, inverting_more}
 use borrow.Author.Rules.{rules}
 use Rattle.lists.proofs.inverting.write_signed.Statement.{statement}
 use Rattle.lists.proofs.inverting.write_signed.Tie as tie
@@ -36,7 +36,7 @@ room : (c : tie.At-loop invariant-loop decreases-loop) → c.loop.sum.0 + 2 * mo
 room c =
     let s = begun c in
     let v = c.loop.invariant.3 s.pre.0.0 s.pre.0.1 in
-    omega (arith, inverting-sum s.pre.0.0 (copied-ends c) s.pre.0.1 v, s.pre.1.0, c.loop.invariant.1, c.before.before.before.before.before.before.before.copy_at.auto.1.0)
+    omega (arith, inverting_sum s.pre.0.0 (copied-ends c) s.pre.0.1 v, s.pre.1.0, c.loop.invariant.1, c.before.before.before.before.before.before.before.copy_at.auto.1.0)
 
 copy-at-requires : tie.Need-copy-at-requires invariant-loop decreases-loop
 copy-at-requires c κs = search rules
@@ -44,12 +44,12 @@ copy-at-requires c κs = search rules
 copy-ends-requires : tie.Need-copy-ends-requires invariant-loop decreases-loop
 copy-ends-requires c κs =
     let s = c.before.before.before.before.before.before.before.before.before in
-    omega (arith, ends-count s.requires.0.0 s.requires.0.1, s.requires.0.1.few, s.requires.1.1)
+    omega (arith, ends_count s.requires.0.0 s.requires.0.1, s.requires.0.1.few, s.requires.1.1)
 
 cast-t17 : tie.Need-overflow-cast-t17 invariant-loop decreases-loop
 cast-t17 c =
     let s = c.before.before.before.before.before.before.before.before.before.before.before.before in
-    omega (arith, letters-short s.requires.0.0 s.requires.0.1)
+    omega (arith, letters_short s.requires.0.0 s.requires.0.1)
 
 loop-holds : tie.Need-loop-init invariant-loop decreases-loop
 loop-holds c =
@@ -61,7 +61,7 @@ loop-holds c =
       refl,
       λ gens r.
           inverting_begins gens s.args.out.now _ r
-          (pasted_front copied.copy_at.ensures (omega (arith, letters-short s.requires.0.0 list, s.requires.1.0))) c.before.before.copy-ends.ensures,
+          (pasted_front copied.copy_at.ensures (omega (arith, letters_short s.requires.0.0 list, s.requires.1.0))) c.before.before.copy-ends.ensures,
     )
 
 mul_wide : tie.Need-overflow-mul-wide invariant-loop decreases-loop
@@ -86,11 +86,11 @@ inverse-form-requires c κs =
     let gens = s.pre.0.0 in
     let r = s.pre.0.1 in
     let v = l.invariant.3 gens r in
-    let short = inverting-short gens (copied-ends t) r v here end in (
-      behind-from s.args.letters.now s.args.ends.now l.from l.i here end v.behind,
+    let short = inverting_short gens (copied-ends t) r v here end in (
+      behind_from s.args.letters.now s.args.ends.now l.from l.i here end v.behind,
       (
-        behind-within s.args.letters.now s.args.ends.now l.from l.i here end v.behind,
-        (letters-all gens r, (omega (arith, letters-short gens r), omega (arith, short, room t, c.wide2.ensures))),
+        behind_within s.args.letters.now s.args.ends.now l.from l.i here end v.behind,
+        (letters_all gens r, (omega (arith, letters_short gens r), omega (arith, short, room t, c.wide2.ensures))),
       ),
     )
 
@@ -120,14 +120,14 @@ more c gens r =
     let l = t.loop in
     let n = c.inverse-form in
     let here : l.i < length s.args.ends.now = omega arith in
-    inverting-more gens (copied-ends t) r (l.inv.3 gens r) here c.before.before.before.wide.ensures n.result.0 n.ensures.0
+    inverting_more gens (copied-ends t) r (l.inv.3 gens r) here c.before.before.before.wide.ensures n.result.0 n.ensures.0
     (n.ensures.1 ∙ ap (λ (at : ℕ). paste l.out at (form c) n.result.0) c.before.wide2.ensures) (omega (arith, room t))
-    (omega (arith, here, ends-count gens r, r.few, s.pre.1.1, t.before.before.before.copy-ends.kept.1.0))
+    (omega (arith, here, ends_count gens r, r.few, s.pre.1.1, t.before.before.before.copy-ends.kept.1.0))
 
 sum-short : (c : Formed) → sum c ≤ most_of_signed_list
 sum-short c =
     let s = begun (turn c) in
-    inverting-sum s.pre.0.0 (copied-ends (turn c)) s.pre.0.1 (more c s.pre.0.0 s.pre.0.1)
+    inverting_sum s.pre.0.0 (copied-ends (turn c)) s.pre.0.1 (more c s.pre.0.0 s.pre.0.1)
 
 add-t21 : tie.Need-overflow-add-t21 invariant-loop decreases-loop
 add-t21 c =
@@ -143,7 +143,7 @@ slice-write-out-ends : tie.Need-slice-write-out-ends invariant-loop decreases-lo
 slice-write-out-ends c =
     let t = turn c.before.before.before.before in
     let s = begun t in
-    omega (arith, ends-count s.pre.0.0 s.pre.0.1, s.pre.0.1.few, s.pre.1.1, t.loop.inv.2, t.before.before.before.copy-ends.kept.1.0)
+    omega (arith, ends_count s.pre.0.0 s.pre.0.1, s.pre.0.1.few, s.pre.1.1, t.loop.inv.2, t.before.before.before.copy-ends.kept.1.0)
 
 add-i : tie.Need-overflow-add-i invariant-loop decreases-loop
 add-i c = search rules
@@ -169,7 +169,7 @@ same-length-2 c = search rules
 
 returns : tie.Need-returns invariant-loop decreases-loop
 returns c =
-    λ gens r. inverting-all gens (copied-ends c.before) r (c.before.loop.invariant.3 gens r) (omega arith)
+    λ gens r. inverting_all gens (copied-ends c.before) r (c.before.loop.invariant.3 gens r) (omega arith)
 
 pub write-signed-spec : {M : Type 1} → statement M
 write-signed-spec =

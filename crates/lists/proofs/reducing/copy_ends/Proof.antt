@@ -6,7 +6,7 @@ use native.Mathlib.Numerals.{add-one}
 use lib.ListN.{length, take, set, get_or, length-set}
 use lib.Seq.{length-take-le, take_all, take-suc}
 use Rattle.slices.specs.Slices.{overwritten}
-use Rattle.slices.proofs.Slices.{front-stored}
+use Rattle.slices.proofs.Slices.{front_stored}
 use borrow.Author.Rules.{rules}
 use native.Mathlib.Omega.{arith}
 use Rattle.lists.proofs.reducing.copy_ends.Statement.{statement}
@@ -44,7 +44,7 @@ loop-again c =
     let l = c.before.before.loop in
     let a = c.before.before.before.args in
     let ends = a.ends.now in
-    let more = front-stored (take l.i ends) a.to.now l.i (length-take-le l.i ends (omega arith)) (get_or ends l.i 0) (omega arith) in (
+    let more = front_stored (take l.i ends) a.to.now l.i (length-take-le l.i ends (omega arith)) (get_or ends l.i 0) (omega arith) in (
       omega arith,
       rw (add-one l.i)
           (ap (λ (t : List ℕ). set t l.i (get_or ends l.i 0)) l.invariant.1 ∙ more ∙ ap (λ (front : List ℕ). overwritten front a.to.now) (sym (take-suc ends l.i 0 (omega arith)))),

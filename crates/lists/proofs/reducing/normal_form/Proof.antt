@@ -2,7 +2,7 @@
 use mathlib.Core.Path.{ap}
 use Rattle.words.specs.Word.{nf}
 use Rattle.words.specs.Calls.{length_of}
-use Rattle.lists.proofs.NormalForms.{form-written, not-refused}
+use Rattle.lists.proofs.NormalForms.{form_written, not_refused}
 use native.Mathlib.Omega.{arith}
 use borrow.Author.Rules.{rules}
 use Rattle.lists.proofs.reducing.normal_form.Statement.{statement}
@@ -44,7 +44,7 @@ returns c =
     let a = s.args in
     let p = s.requires in
     let m = c.before.before.before.before.before.before.reduce in
-    form-written nf 1 a.bytes.now a.from a.end a.out.now a.at (length_of m.result) m.new.1.0 p.0 p.1.0 p.1.1.0 p.1.1.1.0 (omega arith) m.ensures.writes
+    form_written nf 1 a.bytes.now a.from a.end a.out.now a.at (length_of m.result) m.new.1.0 p.0 p.1.0 p.1.1.0 p.1.1.1.0 (omega arith) m.ensures.writes
     (ap length_of c.before.before.account.given.1)
 
 same-length-2 : tie.Need-same-length-2
@@ -56,7 +56,7 @@ returns-2 c =
     let a = s.args in
     let p = s.requires in
     let m = c.before.before.before.before.reduce in
-    absurd (not-refused nf 1 a.bytes.now a.from a.end a.out.now a.at (length_of m.result) m.new.1.0 p.0 p.1.0 p.1.1.0 p.1.1.1.0 (omega arith) m.ensures.writes _ (ap length_of c.enum_told.given.1))
+    absurd (not_refused nf 1 a.bytes.now a.from a.end a.out.now a.at (length_of m.result) m.new.1.0 p.0 p.1.0 p.1.1.0 p.1.1.1.0 (omega arith) m.ensures.writes _ (ap length_of c.enum_told.given.1))
 
 pub normal-form-spec : {M : Type 1} → statement M
 normal-form-spec =

@@ -12,8 +12,8 @@ use Rattle.products.specs.Product.{generators_from, generators}
 use Rattle.products.proofs.Generators.{generators_length}
 use Rattle.lists.specs.Questions.{first_long}
 use Rattle.lists.proofs.Passing.{list_passed}
-use Rattle.lists.proofs.Behind.{Behind, behind_begins, checked_letters, generators-next, behind-from, behind-next, behind-within, long-form, long-sum, long-later}
-use Rattle.lists.proofs.Forms.{Forming, forming_begins, forming-more, letters_kept}
+use Rattle.lists.proofs.Behind.{Behind, behind_begins, checked_letters, generators_next, behind_from, behind_next, behind_within, long_form, long_sum, long_later}
+use Rattle.lists.proofs.Forms.{Forming, forming_begins, forming_more, letters_kept}
 use borrow.Author.Rules.{rules}
 use Rattle.lists.proofs.reducing.write_forms.Statement.{statement}
 use Rattle.lists.proofs.reducing.write_forms.Tie as tie
@@ -60,9 +60,9 @@ normal-form-requires c κs =
     let end = c.before.before.wide.ensures in
     let here : l.i < length ends = omega arith in
     let p = c.before.before.before.before.before.before.before.before.before.before.requires in (
-      behind-from bytes ends l.from l.i here end l.invariant.1,
+      behind_from bytes ends l.from l.i here end l.invariant.1,
       (
-        behind-within bytes ends l.from l.i here end l.invariant.1,
+        behind_within bytes ends l.from l.i here end l.invariant.1,
         (checked_letters bytes ends p.0, ((list_passed bytes ends [] p.0).short, omega (arith, p.1.0, l.invariant.2, l.invariant.4, c.wide2.ensures))),
       ),
     )
@@ -83,7 +83,7 @@ end c = c.before.before.before.wide.result
 
 next : (c : Formed) → generators_from (start c).args.bytes.now (turn c).loop.from (drop (turn c).loop.i (start c).args.ends.now)
     ≡ word (slice (turn c).loop.from (end c) (start c).args.bytes.now) ∷ generators_from (start c).args.bytes.now (end c) (drop ((turn c).loop.i + 1) (start c).args.ends.now)
-next c = generators-next (start c).args.bytes.now (start c).args.ends.now (turn c).loop.from (turn c).loop.i (omega arith) c.before.before.before.wide.ensures
+next c = generators_next (start c).args.bytes.now (start c).args.ends.now (turn c).loop.from (turn c).loop.i (omega arith) c.before.before.before.wide.ensures
 
 room : (c : Formed) → (turn c).loop.sum.0 ≤ length (turn c).loop.out
 room c = let l = (turn c).loop in omega (arith, (start c).requires.1.0, l.inv.2, l.inv.4)
@@ -110,7 +110,7 @@ returns c =
     let formed = c.before.before.before.before in
     let l = (turn formed).loop in
     let f = l.inv.6 in
-    (omega (arith, l.inv.5, long-form l.sum.0 _ _ (next formed) formed.normal-form.ensures.0 (omega (arith, c.if1.true))), ((l.inv.4, f.sums), (kept formed ∙ f.letters, f.ends_is)))
+    (omega (arith, l.inv.5, long_form l.sum.0 _ _ (next formed) formed.normal-form.ensures.0 (omega (arith, c.if1.true))), ((l.inv.4, f.sums), (kept formed ∙ f.letters, f.ends_is)))
 
 add-if2 : tie.Need-overflow-add-if2 invariant-loop decreases-loop
 add-if2 c = search rules
@@ -126,7 +126,7 @@ returns-2 c =
     let formed = c.before.before.before.before.before.before.before in
     let l = (turn formed).loop in
     let f = l.inv.6 in
-    let long = long-sum l.sum.0 _ _ (next formed) formed.normal-form.ensures.0 (omega (arith, c.if2.true)) in
+    let long = long_sum l.sum.0 _ _ (next formed) formed.normal-form.ensures.0 (omega (arith, c.if2.true)) in
     (omega (arith, l.inv.5, long), ((l.inv.4, f.sums), (kept formed ∙ f.letters, f.ends_is)))
 
 add-t13 : tie.Need-overflow-add-t13 invariant-loop decreases-loop
@@ -153,14 +153,14 @@ loop-again c =
     let ends = a.ends.now in
     let n = formed.normal-form in
     let here : l.i < length ends = omega arith in
-    let later = long-later l.sum.0 _ _ (next formed) n.ensures.0 c.before.before.before.before.before.if1.false c.before.before.if2.false in (
+    let later = long_later l.sum.0 _ _ (next formed) n.ensures.0 c.before.before.before.before.before.if1.false c.before.before.if2.false in (
       omega arith,
-      behind-next bytes ends l.from l.i here formed.before.before.before.wide.ensures l.inv.1,
+      behind_next bytes ends l.from l.i here formed.before.before.before.wide.ensures l.inv.1,
       n.auto.1.1.1.0 ∙ l.inv.2,
       length-set l.out-ends l.i (l.sum.0 + n.result.0) ∙ l.inv.3,
       c.before.before.if2.false,
       omega (arith, l.inv.5, later),
-      forming-more (generators bytes ends) a.out-ends.now _ l.sum.0 l.i l.out l.out-ends l.inv.6 _ _ (next formed)
+      forming_more (generators bytes ends) a.out-ends.now _ l.sum.0 l.i l.out l.out-ends l.inv.6 _ _ (next formed)
           (omega (arith, generators_length bytes 0 ends)) n.result.0 n.ensures.0 (formed-behind formed) (room formed) (omega (arith, (start formed).requires.1.1)),
     )
 

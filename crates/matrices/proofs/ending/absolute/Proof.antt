@@ -3,7 +3,7 @@ use mathlib.Core.Path.{ap, ◌∙◌}
 use native.Mathlib.Omega.{arith}
 use lib.IntN.{nat_abs}
 use Rattle.unimodular.proofs.Integers.{nat_abs-negℤ}
-use Rattle.matrices.proofs.Signed.{read, negation, negative-test, castable, negated_negative}
+use Rattle.matrices.proofs.Signed.{read, negation, negative_test, castable, negated_negative}
 use borrow.Author.Rules.{rules}
 use Rattle.matrices.proofs.ending.absolute.Statement.{statement}
 use Rattle.matrices.proofs.ending.absolute.Tie as tie
@@ -14,7 +14,7 @@ sub-result c = (negation (read c.before.args.x (omega arith)) (omega arith)).wit
 cast-result : tie.Need-overflow-cast-result
 cast-result c =
     let x = c.before.args.x in
-    castable (negation (read x (omega arith)) (omega arith)).value (negated_negative x (negative-test (read x (omega arith)) c.if1.true))
+    castable (negation (read x (omega arith)) (omega arith)).value (negated_negative x (negative_test (read x (omega arith)) c.if1.true))
     (omega (arith, nat_abs-negℤ x))
 
 returns : tie.Need-returns
@@ -25,7 +25,7 @@ returns c =
 cast-result-2 : tie.Need-overflow-cast-result-2
 cast-result-2 c =
     let x = c.before.args.x in
-    castable (read x (omega arith)) (negative-test (read x (omega arith)) c.if1.false) (omega arith)
+    castable (read x (omega arith)) (negative_test (read x (omega arith)) c.if1.false) (omega arith)
 
 returns-2 : tie.Need-returns-2
 returns-2 c = search rules

@@ -6,7 +6,7 @@ use mir.Syntax.{w64}
 use mir.ValLaws.{to_z-of_z}
 use Rattle.refusals.specs.Telling.{pick}
 use Rattle.unimodular.proofs.Rows.{negative, positive, signs_agree}
-use Rattle.matrices.proofs.Signed.{reading, negative-test, positive-test}
+use Rattle.matrices.proofs.Signed.{reading, negative_test, positive_test}
 use Rattle.matrices.proofs.ending.signs_agree.Statement.{statement}
 use Rattle.matrices.proofs.ending.signs_agree.Tie as tie
 
@@ -29,23 +29,23 @@ module _ (c : tie.Start) where
   read-y = to_z-of_z w64 c.args.y c.ranges.y
 
 returns : tie.Need-returns
-returns c = first-negative c.before.before.args.x c.before.before.args.y (negative-test (read-x c.before.before) c.before.if1.true) (positive-test (read-y c.before.before) c.if2.true)
+returns c = first-negative c.before.before.args.x c.before.before.args.y (negative_test (read-x c.before.before) c.before.if1.true) (positive_test (read-y c.before.before) c.if2.true)
 
 returns-2 : tie.Need-returns-2
-returns-2 c = first-negative c.before.before.args.x c.before.before.args.y (negative-test (read-x c.before.before) c.before.if1.true) (positive-test (read-y c.before.before) c.if2.false)
+returns-2 c = first-negative c.before.before.args.x c.before.before.args.y (negative_test (read-x c.before.before) c.before.if1.true) (positive_test (read-y c.before.before) c.if2.false)
 
 returns-3 : tie.Need-returns-3
 returns-3 c =
-    first-positive c.before.before.before.args.x c.before.before.before.args.y (negative-test (read-x c.before.before.before) c.before.before.if1.false) (positive-test (read-x c.before.before.before) c.before.if3.true)
-    (negative-test (read-y c.before.before.before) c.if4.true)
+    first-positive c.before.before.before.args.x c.before.before.before.args.y (negative_test (read-x c.before.before.before) c.before.before.if1.false) (positive_test (read-x c.before.before.before) c.before.if3.true)
+    (negative_test (read-y c.before.before.before) c.if4.true)
 
 returns-4 : tie.Need-returns-4
 returns-4 c =
-    first-positive c.before.before.before.args.x c.before.before.before.args.y (negative-test (read-x c.before.before.before) c.before.before.if1.false) (positive-test (read-x c.before.before.before) c.before.if3.true)
-    (negative-test (read-y c.before.before.before) c.if4.false)
+    first-positive c.before.before.before.args.x c.before.before.before.args.y (negative_test (read-x c.before.before.before) c.before.before.if1.false) (positive_test (read-x c.before.before.before) c.before.if3.true)
+    (negative_test (read-y c.before.before.before) c.if4.false)
 
 returns-5 : tie.Need-returns-5
-returns-5 c = first-neither c.before.before.args.x c.before.before.args.y (negative-test (read-x c.before.before) c.before.if1.false) (positive-test (read-x c.before.before) c.if3.false)
+returns-5 c = first-neither c.before.before.args.x c.before.before.args.y (negative_test (read-x c.before.before) c.before.if1.false) (positive_test (read-x c.before.before) c.if3.false)
 
 pub signs-agree-spec : {M : Type 1} → statement M
 signs-agree-spec = tie.close (tie.spec returns returns-2 returns-3 returns-4 returns-5)

@@ -11,7 +11,7 @@ use Rattle.unimodular.proofs.Descent.{size}
 use Rattle.unimodular.proofs.Bound.{size_reduced}
 use Rattle.matrices.specs.Entries.{matrix}
 use Rattle.matrices.specs.Calls.{matrix_or}
-use Rattle.matrices.proofs.Forms.{form-too-long, turns-form, refuses-form}
+use Rattle.matrices.proofs.Forms.{form_too_long, turns_form, refuses_form}
 use native.Mathlib.Omega.{arith}
 use borrow.Author.Rules.{rules}
 use Rattle.matrices.proofs.forming.of_normal_form.Statement.{statement}
@@ -24,7 +24,7 @@ form-matrix c = c.with-sign.ensures ∙ ap signed c.before.product.ensures
 returns : tie.Need-returns
 returns c =
     let w = c.before.before.args.form.now in
-    sym (ap (λ (a : Asked). matrix_or a (signed (matrix_of (word_of w)))) (form-too-long (word_of w) (omega (arith, length-map w letter))))
+    sym (ap (λ (a : Asked). matrix_or a (signed (matrix_of (word_of w)))) (form_too_long (word_of w) (omega (arith, length-map w letter))))
 
 product-requires : tie.Need-product-requires
 product-requires c κs = search rules
@@ -48,13 +48,13 @@ enum-told-2 c = search rules
 returns-2 : tie.Need-returns-2
 returns-2 c =
     let w = c.before.before.before.before.before.before.before.args.form.now in
-    refuses-form (word_of w) c.before.before.before.with-sign.result (omega (arith, length-map w letter)) (form-matrix c.before.before.before)
+    refuses_form (word_of w) c.before.before.before.with-sign.result (omega (arith, length-map w letter)) (form-matrix c.before.before.before)
     (sym c.before.before.of_range.ensures ∙ c.enum_told.given.1)
 
 returns-3 : tie.Need-returns-3
 returns-3 c =
     let w = c.before.before.before.before.before.before.before.args.form.now in
-    turns-form (word_of w) c.before.before.before.with-sign.result (omega (arith, length-map w letter)) (form-matrix c.before.before.before)
+    turns_form (word_of w) c.before.before.before.with-sign.result (omega (arith, length-map w letter)) (form-matrix c.before.before.before)
     (sym c.before.before.of_range.ensures ∙ c.enum-told2.given.1)
 
 pub of-normal-form-spec : {M : Type 1} → statement M

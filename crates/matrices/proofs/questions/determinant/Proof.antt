@@ -8,13 +8,13 @@ use Rattle.refusals.specs.declared.Asked.TheVariants.{Passed}
 use Rattle.matrices.specs.Entries.{matrix}
 use Rattle.matrices.specs.Questions.{question5}
 use Rattle.matrices.proofs.Signed.{reading, Computes, read, product, difference}
-use Rattle.matrices.proofs.Range.{Small, small-of-passed, product_small}
+use Rattle.matrices.proofs.Range.{Small, small_of_passed, product_small}
 use Rattle.matrices.proofs.questions.determinant.Statement.{statement}
 use Rattle.matrices.proofs.questions.determinant.Tie as tie
 
 module _ (m : Matrix) (e : question5 m ≡ Passed) where
   small : Small m
-  small = small-of-passed m e
+  small = small_of_passed m e
 
   ad : Computes (reading m.a *ℤ reading m.d) (m.a *ℤ m.d)
   ad =

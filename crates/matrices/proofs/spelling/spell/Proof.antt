@@ -3,7 +3,7 @@ use mathlib.Core.Path.{◌≡◌, sym, ◌∙◌}
 use Prim.Native.Nat.{◌≤◌}
 use lib.ListN.{length}
 use Rattle.matrices.specs.Entries.{matrix}
-use Rattle.matrices.proofs.Parts.{Spelling, spelling_begins, spelling-more, spelling-ends, spelling-stops, part_not_empty}
+use Rattle.matrices.proofs.Parts.{Spelling, spelling_begins, spelling_more, spelling_ends, spelling_stops, part_not_empty}
 use native.Mathlib.Omega.{arith}
 use Rattle.matrices.proofs.spelling.spell.Statement.{statement}
 use Rattle.matrices.proofs.spelling.spell.Tie as tie
@@ -26,7 +26,7 @@ same_length : tie.Need-same-length invariant-loop decreases-loop
 same_length c = c.before.before.before.loop.invariant.0
 
 returns : tie.Need-returns invariant-loop decreases-loop
-returns c = spelling-ends c.before.before.before.loop.invariant.2 (sym c.before.ending.ensures ∙ c.if1.true) c.before.before.loop-test.true c.before.before.before.loop.invariant.1
+returns c = spelling_ends c.before.before.before.loop.invariant.2 (sym c.before.ending.ensures ∙ c.if1.true) c.before.before.loop-test.true c.before.before.before.loop.invariant.1
 
 prepend-part-requires : tie.Need-prepend-part-requires invariant-loop decreases-loop
 prepend-part-requires c κs = (omega (arith, c.before.if1.false), (c.before.before.before.loop-test.true, c.before.before.before.before.loop.invariant.1))
@@ -43,7 +43,7 @@ loop-again c =
     let p = c.before.before.before.prepend-part in (
       omega (arith, p.auto.0, l.invariant.0),
       omega (arith, p.auto.0, p.ensures.0, l.invariant.1),
-      spelling-more l.invariant.2 p.new.0 p.result c.before.before.before.before.before.before.ending.ensures c.without-last-part.ensures p.ensures.1,
+      spelling_more l.invariant.2 p.new.0 p.result c.before.before.before.before.before.before.ending.ensures c.without-last-part.ensures p.ensures.1,
     )
 
 same-length-2 : tie.Need-same-length-2 invariant-loop decreases-loop
@@ -52,7 +52,7 @@ same-length-2 c = c.before.loop.invariant.0
 returns-2 : tie.Need-returns-2 invariant-loop decreases-loop
 returns-2 c =
     let l = c.before.loop in
-    spelling-stops l.invariant.2 (omega arith) (omega (arith, l.invariant.0, c.before.before.before.requires.1.1))
+    spelling_stops l.invariant.2 (omega arith) (omega (arith, l.invariant.0, c.before.before.before.requires.1.1))
 
 pub spell-spec : {M : Type 1} → statement M
 spell-spec =

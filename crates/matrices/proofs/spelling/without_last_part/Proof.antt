@@ -3,7 +3,7 @@ use mathlib.Core.Path.{sym, ap, ◌∙◌}
 use Prim.Native.Nat.{ℕ}
 use Rattle.words.specs.Word.{S}
 use Rattle.unimodular.specs.Matrix.{Matrix, times, matrix_of_letter}
-use Rattle.unimodular.proofs.Descent.{size, before, size-times-s}
+use Rattle.unimodular.proofs.Descent.{size, before, size_times_s}
 use Rattle.matrices.specs.Entries.{matrix}
 use Rattle.matrices.proofs.Parts.{before_ss}
 use native.Mathlib.Omega.{arith}
@@ -20,7 +20,7 @@ times-s-requires c κs = search rules
 times-s-requires-2 : tie.Need-times-s-requires-2
 times-s-requires-2 c κs =
     let m = c.before.before.args.m in
-    omega (arith, size-times-s (matrix m), ap size c.times-s.ensures)
+    omega (arith, size_times_s (matrix m), ap size c.times-s.ensures)
 
 times-s-requires-3 : tie.Need-times-s-requires-3
 times-s-requires-3 c κs = search rules

@@ -10,7 +10,7 @@ use mir.Val.{SFits}
 use mir.ValLaws.{to_z-of_z}
 use Rattle.unimodular.proofs.Integers.{over, under, num, ◌⊕◌, value_is, side, nat_abs_parts, nat_abs-negℤ}
 use Rattle.unimodular.proofs.Rows.{negative}
-use Rattle.matrices.proofs.Signed.{reading, Computes, computes, negation, negative-test, castable}
+use Rattle.matrices.proofs.Signed.{reading, Computes, computes, negation, negative_test, castable}
 use borrow.Author.Rules.{rules}
 use Rattle.matrices_trial.proofs.printing.magnitude.Statement.{statement}
 use Rattle.matrices_trial.proofs.printing.magnitude.Tie as tie
@@ -62,7 +62,7 @@ small-unless-negative (negsuc n) f e = absurd (true≢false e)
 after : (c : tie.Then1) → Next c.before.args.x
 after c =
     let e = c.before in
-    next e.args.x e.ranges.x (negative-test (to_z-of_z w64 e.args.x e.ranges.x) c.if1.true)
+    next e.args.x e.ranges.x (negative_test (to_z-of_z w64 e.args.x e.ranges.x) c.if1.true)
 
 add-result : tie.Need-overflow-add-result
 add-result c = (after c).sum.within
@@ -91,7 +91,7 @@ returns c =
 cast-result-2 : tie.Need-overflow-cast-result-2
 cast-result-2 c =
     let e = c.before in
-    let n = negative-test (to_z-of_z w64 e.args.x e.ranges.x) c.if1.false in
+    let n = negative_test (to_z-of_z w64 e.args.x e.ranges.x) c.if1.false in
     castable (to_z-of_z w64 e.args.x e.ranges.x) n (small-unless-negative e.args.x e.ranges.x n)
 
 returns-2 : tie.Need-returns-2

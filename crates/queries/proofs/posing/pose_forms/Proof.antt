@@ -12,8 +12,8 @@ use Rattle.refusals.specs.Questions.{of_letters, of_word}
 use Rattle.refusals.specs.declared.Refusal.TheVariants.{OutputTooShort}
 use Rattle.refusals.specs.declared.Asked.{Asked}
 use Rattle.refusals.specs.declared.Asked.TheVariants.{Passed}
-use Rattle.refusals.proofs.Asking.{passed_not_refused, asks_yes, of-word-room, of_letters_short}
-use Rattle.words.proofs.Answering.{refused_of_answer, passed_of_answer, writes-front}
+use Rattle.refusals.proofs.Asking.{passed_not_refused, asks_yes, of_word_room, of_letters_short}
+use Rattle.words.proofs.Answering.{refused_of_answer, passed_of_answer, writes_front}
 use Rattle.queries.specs.Posing.{Plants}
 use native.Mathlib.Omega.{arith}
 use borrow.Author.Rules.{rules}
@@ -33,7 +33,7 @@ told c = c.before.before.before.before.before.before.before
 -- a target that has passed questions 8 and 10 passes question 14 as well, where there is room for all that they let pass
 room-enough : (target form : List ℕ) → of_letters target ≡ Passed → most_letters ≤ length form → of_word target (1 * length target) (length form) ≡ Passed
 room-enough target form passed room =
-    of-word-room target (1 * length target) (length form) passed
+    of_word_room target (1 * length target) (length form) passed
     ∙ asks_yes _ OutputTooShort (le-leb (1 * length target) (length form) (omega (arith, of_letters_short target passed)))
 
 abbrev questions : tie.Start → Asked
@@ -92,7 +92,7 @@ returns-2 c =
     let a = s.args in
     λ reduced-list passed.
     record {
-      form = writes-front nf 1 a.target.now a.form.now (length_of r.reduce.result) _ r.reduce.ensures.writes (asked s passed);
+      form = writes_front nf 1 a.target.now a.form.now (length_of r.reduce.result) _ r.reduce.ensures.writes (asked s passed);
       tree =
           subst
           (λ (form : ℕ).

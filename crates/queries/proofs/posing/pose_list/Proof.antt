@@ -13,12 +13,12 @@ use Rattle.lists.specs.Questions.{question11}
 use Rattle.lists.specs.NormalList.{normal_bytes, normal_ends}
 use Rattle.lists.specs.Reducing.{Checked}
 use Rattle.lists.proofs.NormalList.{normal_bytes_length}
-use Rattle.lists.proofs.Passing.{list_passed, list-alone, target-alone}
+use Rattle.lists.proofs.Passing.{list_passed, list_alone, target_alone}
 use Rattle.lists.proofs.ShortForms.{total_short}
-use Rattle.lists.proofs.ReducedList.{list-too-long, list-short, list_length, list-bytes, list-ends}
+use Rattle.lists.proofs.ReducedList.{list_too_long, list_short, list_length, list_bytes, list_ends}
 use Rattle.queries.specs.Posing.{Lent, ReducedList, PosesReduced}
 use Rattle.queries.proofs.ReducedList.{reduced_list, room_for}
-use Rattle.queries.proofs.ByQuestions.{list-refused, list-posed}
+use Rattle.queries.proofs.ByQuestions.{list_refused, list_posed}
 use native.Mathlib.Omega.{arith}
 use borrow.Author.Rules.{rules}
 use Rattle.queries.proofs.posing.pose_list.Statement.{statement}
@@ -57,14 +57,14 @@ lent c =
 
 -- the list has passed questions 7 to 10
 checked : (c : tie.Start) → Checked c.args.bytes.now c.args.ends.now
-checked c = list-alone c.args.bytes.now c.args.ends.now c.args.target.now c.requires.0
+checked c = list_alone c.args.bytes.now c.args.ends.now c.args.target.now c.requires.0
 
 few : (c : tie.Start) → length c.args.ends.now ≤ most_generators
 few c = (list_passed c.args.bytes.now c.args.ends.now c.args.target.now c.requires.0).few
 
 -- no generator is too long
 none-long : (c : tie.After-m) → question11 (gens (start c)) ≡ Passed
-none-long c = list-short (start c).args.bytes.now (start c).args.ends.now _ _ _ _ _ (written c).reduce-list.ensures (checked (start c)) refl refl c.m.given.1
+none-long c = list_short (start c).args.bytes.now (start c).args.ends.now _ _ _ _ _ (written c).reduce-list.ensures (checked (start c)) refl refl c.m.given.1
 
 -- the letters and the ends that the reduction wrote
 room_letters : (c : tie.After-m) → c.m.given.0.0.0 ≤ length (written c).reduce-list.new.1.1.0
@@ -76,10 +76,10 @@ room-ends : (c : tie.After-m) → length (start c).args.ends.now ≤ length (wri
 room-ends c = omega (arith, few (start c), (written c).reduce-list.auto.1.1.1.0)
 
 the-letters : (c : tie.After-m) → take c.m.given.0.0.0 (written c).reduce-list.new.1.1.0 ≡ normal_bytes (gens (start c))
-the-letters c = list-bytes (start c).args.bytes.now (start c).args.ends.now _ _ _ _ _ (written c).reduce-list.ensures (checked (start c)) refl refl c.m.given.1
+the-letters c = list_bytes (start c).args.bytes.now (start c).args.ends.now _ _ _ _ _ (written c).reduce-list.ensures (checked (start c)) refl refl c.m.given.1
 
 the-ends : (c : tie.After-m) → take (length (start c).args.ends.now) (written c).reduce-list.new.1.1.1.0 ≡ normal_ends 0 (gens (start c))
-the-ends c = list-ends (start c).args.bytes.now (start c).args.ends.now _ _ _ _ _ (written c).reduce-list.ensures (checked (start c)) refl refl c.m.given.1
+the-ends c = list_ends (start c).args.bytes.now (start c).args.ends.now _ _ _ _ _ (written c).reduce-list.ensures (checked (start c)) refl refl c.m.given.1
 
 reduced : (c : tie.After-m)
     → ReducedList (take c.m.given.0.0.0 (written c).reduce-list.new.1.1.0) (take (length (start c).args.ends.now) (written c).reduce-list.new.1.1.1.0)
@@ -137,8 +137,8 @@ returns c =
     let asked = c.before.before.before.before.before in
     let s = begun asked in
     let a = s.args in
-    list-refused a.bytes.now a.ends.now a.target.now (lent s)
-    (list-too-long a.bytes.now a.ends.now _ _ _ _ _ asked.reduce-list.ensures (checked s) refl refl c.before.refusal.given.1)
+    list_refused a.bytes.now a.ends.now a.target.now (lent s)
+    (list_too_long a.bytes.now a.ends.now _ _ _ _ _ asked.reduce-list.ensures (checked s) refl refl c.before.refusal.given.1)
 
 same_length : tie.Need-same-length
 same_length c = search rules
@@ -176,9 +176,9 @@ returns-2 c =
         wholes = p.new.1.1.1.1.1.1.1.1.0;
       };
     } in
-    list-posed a.bytes.now a.ends.now a.target.now p.result before after (none-long t)
+    list_posed a.bytes.now a.ends.now a.target.now p.result before after (none-long t)
     (subst₂ (λ (letters ends : List ℕ). PosesReduced letters ends a.target.now p.result before after) (the-letters t) (the-ends t)
-    (p.ensures (reduced t) (target-alone a.bytes.now a.ends.now a.target.now (start t).pre.0)))
+    (p.ensures (reduced t) (target_alone a.bytes.now a.ends.now a.target.now (start t).pre.0)))
 
 pub pose-list-spec : {M : Type 1} → statement M
 pose-list-spec =

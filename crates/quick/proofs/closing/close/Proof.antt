@@ -3,8 +3,8 @@ use mathlib.Core.Path.{sym, ◌∙◌}
 use Prim.Native.Nat.{◌-◌}
 use native.Mathlib.Omega.{arith}
 use Rattle.quick.specs.Closing.{Marked, Grown, AllMade}
-use Rattle.quick.proofs.Marks.{grown-none, grown_then, marked_seen}
-use Rattle.quick.proofs.Spreading.{Passing, passing-none, passing-more, passed-closed}
+use Rattle.quick.proofs.Marks.{grown_none, grown_then, marked_seen}
+use Rattle.quick.proofs.Spreading.{Passing, passing_none, passing_more, passed_closed}
 use borrow.Author.Rules.{rules}
 use Rattle.quick.proofs.closing.close.Statement.{statement}
 use Rattle.quick.proofs.closing.close.Tie as tie
@@ -22,9 +22,9 @@ loop-holds c =
     let a = c.before.before.before.args in
     let p = c.before.before.before.requires in (
       p.1.1.1.1,
-      grown-none a.visited.now a.queue.now a.count,
+      grown_none a.visited.now a.queue.now a.count,
       λ made. made,
-      passing-none a.rows.now a.taken a.old p.0 a.visited.now a.queue.now a.count p.1.0,
+      passing_none a.rows.now a.taken a.old p.0 a.visited.now a.queue.now a.count p.1.0,
     )
 
 wide-requires : tie.Need-wide-requires invariant-loop decreases-loop
@@ -77,7 +77,7 @@ loop-again c =
       spreads.marked,
       grown_then l.invariant.1 spreads.grown,
       λ made. spreads.made (l.invariant.2 made),
-      passing-more a.rows.now a.taken a.old p.0 a.visited.now a.queue.now a.count p.1.0 l.i
+      passing_more a.rows.now a.taken a.old p.0 a.visited.now a.queue.now a.count p.1.0 l.i
           c.before.before.before.before.before.before.before.before.before.before.before.loop-test.true l.invariant.1 l.invariant.3
           first.ensures spreads,
     )
@@ -100,7 +100,7 @@ returns-2 c =
       grown = l.invariant.1;
       made = l.invariant.2;
       closed =
-          passed-closed a.rows.now a.taken a.old p.0 a.visited.now a.queue.now a.count p.1.0 l.i a.target c.loop-test.false
+          passed_closed a.rows.now a.taken a.old p.0 a.visited.now a.queue.now a.count p.1.0 l.i a.target c.loop-test.false
           l.invariant.0 l.invariant.3;
     }
 

@@ -6,7 +6,7 @@ use lib.ListN.{length, get_or}
 use Rattle.residues.specs.Residues.{multiplied}
 use Rattle.residues.proofs.Multiplied.{multiplied_small}
 use Rattle.quick.specs.Closing.{act, Spreads}
-use Rattle.quick.proofs.Spreading.{spreads-none, spreads-more}
+use Rattle.quick.proofs.Spreading.{spreads_none, spreads_more}
 use borrow.Author.Rules.{rules}
 use Rattle.quick.proofs.closing.spread.Statement.{statement}
 use Rattle.quick.proofs.closing.spread.Tie as tie
@@ -24,7 +24,7 @@ loop-holds : tie.Need-loop-init invariant-loop decreases-loop
 loop-holds c =
     let a = c.before.before.before.before.args in
     let p = c.before.before.before.before.requires in
-    (omega arith, spreads-none a.rows.now a.from a.taken a.i a.visited.now a.queue.now a.count p.1.0 p.1.1)
+    (omega arith, spreads_none a.rows.now a.from a.taken a.i a.visited.now a.queue.now a.count p.1.0 p.1.1)
 
 product-requires : tie.Need-product-requires invariant-loop decreases-loop
 product-requires c κs =
@@ -76,7 +76,7 @@ loop-again c =
     let p = (start k).requires in
     let l = (turn k).loop in (
       omega arith,
-      spreads-more a.rows.now a.from a.taken a.i a.visited.now a.queue.now a.count p.1.0 p.1.1 l.b k.product.result (below k) (right k)
+      spreads_more a.rows.now a.from a.taken a.i a.visited.now a.queue.now a.count p.1.0 p.1.1 l.b k.product.result (below k) (right k)
           l.inv.1 c.before.before.before.before.visit.ensures,
     )
 

@@ -3,7 +3,7 @@ use Prim.Native.Nat.{◌+◌}
 use native.Mathlib.Omega.{arith}
 use Rattle.quick.specs.Closing.{RowsRight}
 use Rattle.quick.proofs.Marks.{marked_seen}
-use Rattle.quick.proofs.TakingIn.{taken-known, rows_more, taken-new}
+use Rattle.quick.proofs.TakingIn.{taken_known, rows_more, taken_new}
 use borrow.Author.Rules.{rules}
 use Rattle.quick.proofs.closing.take_in.Statement.{statement}
 use Rattle.quick.proofs.closing.take_in.Tie as tie
@@ -28,7 +28,7 @@ returns : tie.Need-returns
 returns c =
     let a = c.before.before.before.before.before.before.args in
     let p = c.before.before.before.before.before.before.requires in
-    taken-known a.image a.target a.rows.now a.visited.now a.queue.now a.sizes p.1.1.0 p.1.1.1.1
+    taken_known a.image a.target a.rows.now a.visited.now a.queue.now a.sizes p.1.1.0 p.1.1.1.1
     (marked_seen a.visited.now c.before.before.wide.ensures c.if1.true)
 
 mul-fill-row : tie.Need-overflow-mul-fill-row
@@ -81,7 +81,7 @@ returns-2 c =
     let f = filled v in
     let a = (start f).args in
     let p = (start f).pre in
-    taken-new a.image a.target a.sizes.taken p.0 a.rows.now _ p.1.1.0 p.1.1.1.0 f.fill-row.ensures p.1.1.1.1 v.visit.ensures
+    taken_new a.image a.target a.sizes.taken p.0 a.rows.now _ p.1.1.0 p.1.1.1.0 f.fill-row.ensures p.1.1.1.1 v.visit.ensures
     done.close.ensures
 
 pub take-in-spec : {M : Type 1} → statement M

@@ -4,7 +4,7 @@ use mathlib.Core.List.{List}
 use Prim.Native.Nat.{ℕ}
 use native.Mathlib.Omega.{arith}
 use lib.ListN.{get_or}
-use Rattle.quick.proofs.Marks.{room-left, visit-new, visit-known}
+use Rattle.quick.proofs.Marks.{room_left, visit_new, visit_known}
 use borrow.Author.Rules.{rules}
 use Rattle.quick.proofs.closing.visit.Statement.{statement}
 use Rattle.quick.proofs.closing.visit.Tie as tie
@@ -26,7 +26,7 @@ slice-write-queue : tie.Need-slice-write-queue
 slice-write-queue c =
     let a = c.before.before.before.before.before.args in
     let p = c.before.before.before.before.before.requires in
-    room-left a.visited.now a.queue.now a.count p.1 a.k p.0 (same-mark a.visited.now c.before.before.wide.ensures ∙ c.if1.true)
+    room_left a.visited.now a.queue.now a.count p.1 a.k p.0 (same-mark a.visited.now c.before.before.wide.ensures ∙ c.if1.true)
 
 add-result : tie.Need-overflow-add-result
 add-result c = search rules
@@ -41,13 +41,13 @@ returns : tie.Need-returns
 returns c =
     let a = c.before.before.before.before.before.args in
     let p = c.before.before.before.before.before.requires in
-    rw c.before.before.wide.ensures (visit-new a.visited.now a.queue.now a.count p.1 a.k p.0 (same-mark a.visited.now c.before.before.wide.ensures ∙ c.if1.true))
+    rw c.before.before.wide.ensures (visit_new a.visited.now a.queue.now a.count p.1 a.k p.0 (same-mark a.visited.now c.before.before.wide.ensures ∙ c.if1.true))
 
 returns-2 : tie.Need-returns-2
 returns-2 c =
     let a = c.before.before.before.before.before.args in
     let p = c.before.before.before.before.before.requires in
-    visit-known a.visited.now a.queue.now a.count p.1 a.k p.0
+    visit_known a.visited.now a.queue.now a.count p.1 a.k p.0
     (λ e. c.if1.false (sym (same-mark a.visited.now c.before.before.wide.ensures) ∙ e))
 
 pub visit-spec : {M : Type 1} → statement M

@@ -10,10 +10,10 @@ use Rattle.refusals.proofs.Asking.{first_no_one}
 use Rattle.products.specs.Product.{generators}
 use Rattle.lists.specs.Questions.{question11}
 use Rattle.lists.specs.Reducing.{Checked}
-use Rattle.lists.proofs.Passing.{list-alone}
-use Rattle.lists.proofs.ReducedList.{list-too-long, list-short}
+use Rattle.lists.proofs.Passing.{list_alone}
+use Rattle.lists.proofs.ReducedList.{list_too_long, list_short}
 use Rattle.quick.specs.Calls.{AnsweredBy}
-use Rattle.quick.proofs.ByQuestions.{first-refuses, first_passes}
+use Rattle.quick.proofs.ByQuestions.{first_refuses, first_passes}
 use borrow.Author.Rules.{rules}
 use Rattle.quick.proofs.deciding.answer_checked.Statement.{statement}
 use Rattle.quick.proofs.deciding.answer_checked.Tie as tie
@@ -28,7 +28,7 @@ abbrev target : tie.Start → Word
 target s = word s.args.target.now
 
 checked : (s : tie.Start) → Checked s.args.bytes.now s.args.ends.now
-checked s = list-alone s.args.bytes.now s.args.ends.now s.args.target.now s.requires
+checked s = list_alone s.args.bytes.now s.args.ends.now s.args.target.now s.requires
 
 slice-aggregate-reduce-list : tie.Need-slice-aggregate-reduce-list
 slice-aggregate-reduce-list c = search rules
@@ -52,8 +52,8 @@ returns : tie.Need-returns
 returns c =
     let reduced = c.before.before.before.before.before in
     let s = begun reduced in
-    first-refuses (gens s) (target s) (question11 (gens s)) (question12 (length (nf (target s))) ∷ [])
-    (list-too-long s.args.bytes.now s.args.ends.now _ _ _ _ _ reduced.reduce-list.ensures (checked s) refl refl c.before.refusal.given.1)
+    first_refuses (gens s) (target s) (question11 (gens s)) (question12 (length (nf (target s))) ∷ [])
+    (list_too_long s.args.bytes.now s.args.ends.now _ _ _ _ _ reduced.reduce-list.ensures (checked s) refl refl c.before.refusal.given.1)
 
 returns-2 : tie.Need-returns-2
 returns-2 c =
@@ -61,7 +61,7 @@ returns-2 c =
     let s = begun reduced in
     let twelve = question12 (length (nf (target s))) in
     first_passes (gens s) (target s) (question11 (gens s)) (twelve ∷ []) c.answer-short.result
-    (list-short s.args.bytes.now s.args.ends.now _ _ _ _ _ reduced.reduce-list.ensures (checked s) refl refl c.before.enum_told.given.1)
+    (list_short s.args.bytes.now s.args.ends.now _ _ _ _ _ reduced.reduce-list.ensures (checked s) refl refl c.before.enum_told.given.1)
     (subst (λ (a : Asked). AnsweredBy a (gens s) (target s) c.answer-short.result) (sym (first_no_one twelve)) c.answer-short.ensures)
 
 pub answer-checked-spec : {M : Type 1} → statement M

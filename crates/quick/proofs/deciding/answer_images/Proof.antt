@@ -7,14 +7,14 @@ use lib.ListN.{length, get_or}
 use Rattle.words.specs.Bytes.{word}
 use Rattle.products.specs.Product.{generators}
 use Rattle.lists.proofs.FirstOthers.{part_slice}
-use Rattle.lists.proofs.Behind.{behind-from, behind-within}
+use Rattle.lists.proofs.Behind.{behind_from, behind_within}
 use Rattle.lists.proofs.Passing.{list_passed}
 use Rattle.residues.specs.Residues.{image}
 use Rattle.residues.proofs.Images.{image_small}
 use Rattle.quick.specs.Calls.{QuickRight}
 use Rattle.quick.specs.Closing.{told_by}
 use Rattle.quick.proofs.Marks.{marked_seen}
-use Rattle.quick.proofs.MarksDecide.{Taking, taking-begins, taking-more, taking-open, taking-told}
+use Rattle.quick.proofs.MarksDecide.{Taking, taking_begins, taking_more, taking_open, taking_told}
 use borrow.Author.Rules.{rules}
 use Rattle.quick.proofs.deciding.answer_images.Statement.{statement}
 use Rattle.quick.proofs.deciding.answer_images.Tie as tie
@@ -29,7 +29,7 @@ decreases-loop bytes ends target rows₀ visited₀ queue₀ sizes₀ from₀ i�
 loop-holds : tie.Need-loop-init invariant-loop decreases-loop
 loop-holds c =
     let a = c.before.before.args in
-    taking-begins a.bytes.now a.ends.now a.target c.before.before.requires.0
+    taking_begins a.bytes.now a.ends.now a.target c.before.before.requires.0
 
 wide-requires : tie.Need-wide-requires invariant-loop decreases-loop
 wide-requires c κs = search rules
@@ -42,7 +42,7 @@ returns c =
     λ w e.
     let a = c.before.before.before.before.before.before.args in
     let l = c.before.before.before.loop in
-    taking-open a.bytes.now a.ends.now a.target l.from l.i l.invariant w e (marked_seen l.visited c.before.wide.ensures c.if1.true)
+    taking_open a.bytes.now a.ends.now a.target l.from l.i l.invariant w e (marked_seen l.visited c.before.wide.ensures c.if1.true)
 
 mul_wide : tie.Need-overflow-mul-wide invariant-loop decreases-loop
 mul_wide c = search rules
@@ -71,13 +71,13 @@ rises : (c : AtHand) → (turn c).loop.from ≤ c.wide2.result
 rises c =
     let a = (start c).args in
     let l = (turn c).loop in
-    behind-from a.bytes.now a.ends.now l.from l.i (inside c) c.wide2.ensures l.inv.behind
+    behind_from a.bytes.now a.ends.now l.from l.i (inside c) c.wide2.ensures l.inv.behind
 
 ends : (c : AtHand) → c.wide2.result ≤ length (start c).args.bytes.now
 ends c =
     let a = (start c).args in
     let l = (turn c).loop in
-    behind-within a.bytes.now a.ends.now l.from l.i (inside c) c.wide2.ensures l.inv.behind
+    behind_within a.bytes.now a.ends.now l.from l.i (inside c) c.wide2.ensures l.inv.behind
 
 sub-image-of : tie.Need-overflow-sub-image-of invariant-loop decreases-loop
 sub-image-of c = rises c
@@ -122,7 +122,7 @@ loop-again c =
     let a = (start hand).args in
     let l = (turn hand).loop in
     let img = c.before.before.before.before.before.before.before.image-of in
-    taking-more a.bytes.now a.ends.now a.target l.from l.i l.inv hand.wide2.result img.result (inside hand) hand.wide2.ensures
+    taking_more a.bytes.now a.ends.now a.target l.from l.i l.inv hand.wide2.result img.result (inside hand) hand.wide2.ensures
     (img.ensures ∙ ap (λ (l : List ℕ). image (word l)) (part_slice a.bytes.now l.from hand.wide2.result (rises hand)))
     c.before.before.before.take_in.ensures
 
@@ -142,7 +142,7 @@ returns-2 c =
     let l = c.before.before.before.loop in
     subst (QuickRight (generators a.bytes.now a.ends.now) w)
     (sym (c.told.ensures ∙ ap (λ (k : ℕ). told_by (get_or l.visited k 0)) c.before.wide3.ensures))
-    (taking-told a.bytes.now a.ends.now a.target l.from l.i l.invariant w e c.before.before.loop-test.false)
+    (taking_told a.bytes.now a.ends.now a.target l.from l.i l.invariant w e c.before.before.loop-test.false)
 
 pub answer-images-spec : {M : Type 1} → statement M
 answer-images-spec =

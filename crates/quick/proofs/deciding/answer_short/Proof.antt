@@ -5,13 +5,13 @@ use Prim.Native.Nat.{ℕ, ◌<◌}
 use lib.ListN.{length}
 use Rattle.words.specs.Word.{Word, nf}
 use Rattle.words.specs.Bytes.{word}
-use Rattle.words.proofs.Answering.{reduce-refused, reduce-length}
+use Rattle.words.proofs.Answering.{reduce_refused, reduce_length}
 use Rattle.refusals.specs.Questions.{question12}
 use Rattle.refusals.proofs.Asking.{passed_not_refused}
 use Rattle.products.specs.Product.{generators}
-use Rattle.lists.proofs.Passing.{list-alone, target-alone}
+use Rattle.lists.proofs.Passing.{list_alone, target_alone}
 use Rattle.residues.proofs.Images.{image_small}
-use Rattle.quick.proofs.ByQuestions.{by-refusal, by_right}
+use Rattle.quick.proofs.ByQuestions.{by_refusal, by_right}
 use borrow.Author.Rules.{rules}
 use Rattle.quick.proofs.deciding.answer_short.Statement.{statement}
 use Rattle.quick.proofs.deciding.answer_short.Tie as tie
@@ -31,7 +31,7 @@ target s = word s.args.target.now
 asked : (c : tie.After-of-form) → c.of-form.result ≡ question12 (length (nf (target (begun (reduced c)))))
 asked c =
     let s = begun (reduced c) in
-    c.of-form.ensures ∙ ap question12 (reduce-length s.args.target.now _ _ _ (reduced c).reduce.ensures refl c.before.before.account.given.1)
+    c.of-form.ensures ∙ ap question12 (reduce_length s.args.target.now _ _ _ (reduced c).reduce.ensures refl c.before.before.account.given.1)
 
 slice-aggregate-reduce : tie.Need-slice-aggregate-reduce
 slice-aggregate-reduce c = search rules
@@ -60,7 +60,7 @@ image-of-requires c κs = search rules
 answer-images-requires : tie.Need-answer-images-requires
 answer-images-requires c κs =
     let s = begun (reduced c.before.before.before) in
-    (list-alone s.args.bytes.now s.args.ends.now s.args.target.now s.pre, subst (λ (k : ℕ). k < 168) (sym c.image-of.ensures) (image_small _))
+    (list_alone s.args.bytes.now s.args.ends.now s.args.target.now s.pre, subst (λ (k : ℕ). k < 168) (sym c.image-of.ensures) (image_small _))
 
 returns : tie.Need-returns
 returns c =
@@ -68,14 +68,14 @@ returns c =
     let s = begun r in
     absurd
     (passed_not_refused
-    (sym (reduce-refused s.args.target.now _ _ _ r.reduce.ensures refl c.before.refusal.given.1)
-    ∙ target-alone s.args.bytes.now s.args.ends.now s.args.target.now s.pre))
+    (sym (reduce_refused s.args.target.now _ _ _ r.reduce.ensures refl c.before.refusal.given.1)
+    ∙ target_alone s.args.bytes.now s.args.ends.now s.args.target.now s.pre))
 
 returns-2 : tie.Need-returns-2
 returns-2 c =
     let f = c.before.before.before in
     let s = begun (reduced f) in
-    by-refusal (gens s) (target s) (question12 (length (nf (target s)))) (sym (asked f) ∙ c.before.refusal2.given.1)
+    by_refusal (gens s) (target s) (question12 (length (nf (target s)))) (sym (asked f) ∙ c.before.refusal2.given.1)
 
 returns-3 : tie.Need-returns-3
 returns-3 c =

@@ -4,10 +4,10 @@ use Prim.Native.Nat.{ℕ, ◌+◌, ◌-◌, ◌≤◌, ◌<◌}
 use native.Mathlib.Omega.{arith}
 use lib.ListN.{length, get_or}
 use Rattle.residues.specs.Residues.{times_letter}
-use Rattle.residues.proofs.Numbering.{times-letter-small}
+use Rattle.residues.proofs.Numbering.{times_letter_small}
 use Rattle.quick.specs.Table.{letter_of, parent_of, column_of, Fills}
-use Rattle.quick.proofs.Tables.{parent-small, last-letter-small}
-use Rattle.quick.proofs.Filling.{Filling, begun-room, filling-begins, filling-more, filling-ends, parent-product-small}
+use Rattle.quick.proofs.Tables.{parent_small, last_letter_small}
+use Rattle.quick.proofs.Filling.{Filling, begun_room, filling_begins, filling_more, filling_ends, parent_product_small}
 use borrow.Author.Rules.{rules}
 use Rattle.quick.proofs.table.fill_row.Statement.{statement}
 use Rattle.quick.proofs.table.fill_row.Tie as tie
@@ -46,7 +46,7 @@ base-room c =
     let a = (start c).args in
     let p = (start c).requires in
     let w = (turn c).before.wide in
-    omega (arith, (turn c).loop.invariant.1.size, begun-room a.image a.at p.0 a.rows.now p.1 w.result w.ensures)
+    omega (arith, (turn c).loop.invariant.1.size, begun_room a.image a.at p.0 a.rows.now p.1 w.result w.ensures)
 
 wide-requires : tie.Need-wide-requires invariant-loop decreases-loop
 wide-requires c κs = search rules
@@ -61,7 +61,7 @@ loop-holds : tie.Need-loop-init invariant-loop decreases-loop
 loop-holds c =
     let a = c.before.before.args in
     let p = c.before.before.requires in
-    (omega arith, filling-begins a.image a.at p.0 a.rows.now p.1 c.wide.result c.wide.ensures)
+    (omega arith, filling_begins a.image a.at p.0 a.rows.now p.1 c.wide.result c.wide.ensures)
 
 parent-of-requires : tie.Need-parent-of-requires invariant-loop decreases-loop
 parent-of-requires c κs = search rules
@@ -73,7 +73,7 @@ times-letter-requires : tie.Need-times-letter-requires invariant-loop decreases-
 times-letter-requires c κs =
     let l = c.before.before.before.loop in
     let i = l.i in
-    (omega (arith, c.before.parent_of.ensures, parent-small i (omega arith)), omega (arith, c.last-letter-of.ensures, last-letter-small i (omega arith)))
+    (omega (arith, c.before.parent_of.ensures, parent_small i (omega arith)), omega (arith, c.last-letter-of.ensures, last_letter_small i (omega arith)))
 
 wide-requires-2 : tie.Need-wide-requires-2 invariant-loop decreases-loop
 wide-requires-2 c κs = search rules
@@ -82,16 +82,16 @@ add-times-letter : tie.Need-overflow-add-times-letter invariant-loop decreases-l
 add-times-letter c = search rules
 
 slice-read-times-letter : tie.Need-slice-read-times-letter invariant-loop decreases-loop
-slice-read-times-letter c = omega (arith, base-room c, parent c, parent-small (i c) (below c))
+slice-read-times-letter c = omega (arith, base-room c, parent c, parent_small (i c) (below c))
 
 times-letter-requires-2 : tie.Need-times-letter-requires-2 invariant-loop decreases-loop
 times-letter-requires-2 c κs =
     let a = (start c).args in
     let p = (start c).requires in
     let w = (turn c).before.wide in
-    let base = begun-room a.image a.at p.0 a.rows.now p.1 w.result w.ensures in (
-      rw (parent c) (parent-product-small a.image a.at p.0 _ base (i c) (below c) (turn c).loop.rows (turn c).loop.invariant.1),
-      omega (arith, last_letter c, last-letter-small (i c) (below c)),
+    let base = begun_room a.image a.at p.0 a.rows.now p.1 w.result w.ensures in (
+      rw (parent c) (parent_product_small a.image a.at p.0 _ base (i c) (below c) (turn c).loop.rows (turn c).loop.invariant.1),
+      omega (arith, last_letter c, last_letter_small (i c) (below c)),
     )
 
 -- ---- once the child is known
@@ -108,7 +108,7 @@ child c =
 child-small : (c : Led) → c.wide3.result < 168
 child-small c =
     let before = c.before.before in
-    rw (child c) (times-letter-small (parent_of (i before)) (parent-small (i before) (below before)) (letter_of (column_of (i before))))
+    rw (child c) (times_letter_small (parent_of (i before)) (parent_small (i before) (below before)) (letter_of (column_of (i before))))
 
 wide-requires-3 : tie.Need-wide-requires-3 invariant-loop decreases-loop
 wide-requires-3 c κs = search rules
@@ -132,12 +132,12 @@ loop-again c =
     let p = (start before).requires in
     let l = (turn before).loop in
     let w = (turn before).before.wide in
-    let base = begun-room a.image a.at p.0 a.rows.now p.1 w.result w.ensures in
+    let base = begun_room a.image a.at p.0 a.rows.now p.1 w.result w.ensures in
     let product =
     c.before.times-letter2.ensures
     ∙ ap₂ (λ (k j : ℕ). times_letter (get_or l.rows (a.at + k) 0) (letter_of j)) (parent before) (last_letter before) in (
       omega arith,
-      filling-more a.image a.at p.0 _ base l.i (below before) l.rows l.inv.1 c.wide3.result c.before.times-letter2.result (child c) product
+      filling_more a.image a.at p.0 _ base l.i (below before) l.rows l.inv.1 c.wide3.result c.before.times-letter2.result (child c) product
           (child-small c),
     )
 
@@ -149,7 +149,7 @@ ended c =
     let p = c.before.before.before.before.requires in
     let l = c.before.loop in
     let w = c.before.before.wide in
-    filling-ends a.image a.at p.0 a.rows.now p.1 w.result w.ensures l.i c.loop-test.false l.rows l.invariant.1
+    filling_ends a.image a.at p.0 a.rows.now p.1 w.result w.ensures l.i c.loop-test.false l.rows l.invariant.1
 
 same_length : tie.Need-same-length invariant-loop decreases-loop
 same_length c = (ended c).size

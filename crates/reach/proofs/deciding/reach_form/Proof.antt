@@ -10,7 +10,7 @@ use Rattle.sizes.proofs.Passing.{SizesPassed}
 use Rattle.reach.specs.Questions.{of_room}
 use Rattle.reach.specs.Calls.{Lent}
 use Rattle.reach.proofs.RoomPassed.{room_passed}
-use Rattle.reach.proofs.AfterQuestions.{reached-refused, reached-decided}
+use Rattle.reach.proofs.AfterQuestions.{reached_refused, reached_decided}
 use native.Mathlib.Omega.{arith}
 use borrow.Author.Rules.{rules}
 use Rattle.reach.proofs.deciding.reach_form.Statement.{statement}
@@ -83,7 +83,7 @@ returns c gens ready =
     let room = c.before.before.before in
     let s = begun room in
     let form = s.args.form.now in
-    reached-refused (answered s) (q s) gens (word form) (lent s)
+    reached_refused (answered s) (q s) gens (word form) (lent s)
     (rw (length-map form letter) (sym room.of_room.ensures ∙ c.before.refusal.given.1))
 
 same_length : tie.Need-same-length
@@ -103,7 +103,7 @@ returns-2 c gens ready =
     let s = start t in
     let form = s.args.form.now in
     let same = length-map form letter in
-    reached-decided (answered s) (q s) gens (word form) d.result (lent s)
+    reached_decided (answered s) (q s) gens (word form) d.result (lent s)
     (record { first = d.last.1.1.1.1.1.1.1.0; second = d.last.1.1.1.1.1.1.1.1.0 })
     (record { first = zero-first.last.0; second = zero-second.new.0 })
     (rw same (passed t))

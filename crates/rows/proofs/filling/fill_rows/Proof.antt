@@ -3,7 +3,7 @@ use mathlib.Core.Path.{◌≡◌, refl, ◌∙◌}
 use Prim.Native.Nat.{◌-◌, ◌≤◌}
 use lib.ListN.{length}
 use Rattle.limits.specs.Limits.{most_states}
-use Rattle.rows.proofs.MadeRows.{Filling, path-rows, filling-begins, filling-more, filling-rest, row_fits}
+use Rattle.rows.proofs.MadeRows.{Filling, path_rows, filling_begins, filling_more, filling_rest, row_fits}
 use Rattle.rows.proofs.Parts.{row_inside}
 use borrow.Author.Rules.{rules}
 use native.Mathlib.Omega.{arith}
@@ -32,7 +32,7 @@ copy-row-requires c κs =
 loop-holds : tie.Need-loop-init invariant-loop decreases-loop
 loop-holds c =
     let first = c.before.before in
-    (omega arith, refl, filling-begins (begun first).requires first.copy-row.ensures)
+    (omega arith, refl, filling_begins (begun first).requires first.copy-row.ensures)
 
 shared-slice-read-read-letter : tie.Need-shared-slice-read-read-letter invariant-loop decreases-loop
 shared-slice-read-read-letter c = search rules
@@ -61,7 +61,7 @@ loop-again c =
     let at-loop = at-letter.before.before.before.before.before in
     let l = at-loop.loop.invariant in
     let r = at-letter.read-letter.ensures in
-    (omega arith, r.1.long ∙ l.1, filling-more (begun (copied at-loop)).pre l.2 r.0)
+    (omega arith, r.1.long ∙ l.1, filling_more (begun (copied at-loop)).pre l.2 r.0)
 
 same_length : tie.Need-same-length invariant-loop decreases-loop
 same_length c = c.before.loop.invariant.2.long ∙ (copied c.before).copy-row.ensures.long
@@ -74,9 +74,9 @@ returns c =
     let all : l.i ≡ length start.args.target.now = omega arith in
     let row = first.copy-row.ensures in
     record {
-      right = rw (← all) (path-rows l.invariant.2);
+      right = rw (← all) (path_rows l.invariant.2);
       long = l.invariant.2.long ∙ row.long;
-      kept = rw (← all) (filling-rest start.pre row l.invariant.2);
+      kept = rw (← all) (filling_rest start.pre row l.invariant.2);
     }
 
 pub fill-rows-spec : {M : Type 1} → statement M

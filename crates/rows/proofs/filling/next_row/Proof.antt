@@ -5,7 +5,7 @@ use lib.Dec.{eqb}
 use Rattle.refusals.specs.Telling.{pick}
 use Rattle.trees.specs.Tree.{at}
 use Rattle.rows.specs.Rounds.{RoundFits, least_sum}
-use Rattle.rows.proofs.NextRows.{first-low, next_row}
+use Rattle.rows.proofs.NextRows.{first_low, next_row}
 use Rattle.rows.proofs.Parts.{part_at, part_length}
 use Rattle.rows.proofs.Rewriting.{rewritten_to, rewritten_as}
 use native.Mathlib.Omega.{arith}
@@ -79,7 +79,7 @@ round-requires c κs =
       room = omega (arith, r.ensures.long);
       table_room = p.table_room;
       low =
-          first-low a.count a.n.0 a.i a.children.now a.table.now a.rows.now p.inside room r.new.1.1.1.0
+          first_low a.count a.n.0 a.i a.children.now a.table.now a.rows.now p.inside room r.new.1.1.1.0
           (λ v h. r.ensures.new v (omega arith)) p.low;
       table_low = p.table_low;
     } in

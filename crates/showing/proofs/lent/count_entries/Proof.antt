@@ -3,7 +3,7 @@ use mathlib.Core.Path.{refl}
 use Prim.Native.Nat.{◌-◌}
 use lib.ListN.{length}
 use borrow.Author.Rules.{rules}
-use Rattle.showing.proofs.Counting.{Counted, counted_none, counted-more, counted-all}
+use Rattle.showing.proofs.Counting.{Counted, counted_none, counted_more, counted_all}
 use Rattle.showing.proofs.lent.count_entries.Statement.{statement}
 use Rattle.showing.proofs.lent.count_entries.Tie as tie
 
@@ -32,10 +32,10 @@ loop-less : tie.Need-loop-smaller invariant-loop decreases-loop
 loop-less c = search rules
 
 loop-again : tie.Need-loop-preserved invariant-loop decreases-loop
-loop-again c = counted-more c.before.before.before.loop.invariant c.before.before.loop-test.true refl c.one_more.ensures
+loop-again c = counted_more c.before.before.before.loop.invariant c.before.before.loop-test.true refl c.one_more.ensures
 
 returns : tie.Need-returns invariant-loop decreases-loop
-returns c = counted-all c.before.loop.invariant c.loop-test.false
+returns c = counted_all c.before.loop.invariant c.loop-test.false
 
 pub count-entries-spec : {M : Type 1} → statement M
 count-entries-spec =

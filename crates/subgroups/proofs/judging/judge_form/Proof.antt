@@ -14,7 +14,7 @@ use Rattle.engine.specs.Calls.{Lent}
 use Rattle.subgroups.specs.Questions.{of_signed_sizes}
 use Rattle.subgroups.specs.Judging.{sizes_asked}
 use Rattle.subgroups.proofs.Sizes.{signed_sizes_passed}
-use Rattle.subgroups.proofs.Verdicts.{signed-refused, signed-settled}
+use Rattle.subgroups.proofs.Verdicts.{signed_refused, signed_settled}
 use borrow.Author.Rules.{rules}
 use Rattle.subgroups.proofs.judging.judge_form.Statement.{statement}
 use Rattle.subgroups.proofs.judging.judge_form.Tie as tie
@@ -94,7 +94,7 @@ returns c =
     let asked = c.before.before.before in
     let s = begun asked in
     λ gens target ready m-is form-is forms.
-    signed-refused gens target s.args.n.0 (lent s) (slice s)
+    signed_refused gens target s.args.n.0 (lent s) (slice s)
     (asked_is s gens target m-is form-is ∙ sym asked.of-signed-sizes.ensures ∙ c.before.refusal.given.1)
 
 same_length : tie.Need-same-length
@@ -122,7 +122,7 @@ returns-2 c =
     let middle : Lent = record { first = last.0; second = last.1.0; witness = last.1.1.0 } in
     let after : Lent = record { first = last.0; second = last.1.0; witness = signed.sign-factors.last.1.1.0 } in
     λ gens target ready m-is form-is forms.
-    signed-settled gens target a.n.0 v.result (lent s) middle after (slice s) copied.copy_at.new.1.0 forms
+    signed_settled gens target a.n.0 v.result (lent s) middle after (slice s) copied.copy_at.new.1.0 forms
     (asked_is s gens target m-is form-is ∙ passed t)
     a.m.0 (word a.form.now) m-is form-is (v.ensures (map nf (with_inverses gens)) ready (plain-passed t))
     refl refl signed.sign-factors.ensures copied.copy_at.ensures

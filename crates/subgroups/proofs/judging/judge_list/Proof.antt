@@ -14,13 +14,13 @@ use Rattle.refusals.proofs.Asking.{passed_first, refused_first, first_no_one}
 use Rattle.products.specs.Product.{generators}
 use Rattle.lists.specs.Questions.{question11}
 use Rattle.lists.specs.Reducing.{Checked}
-use Rattle.lists.proofs.Passing.{list_passed, list-alone, target-alone}
-use Rattle.lists.proofs.SignedList.{signed-too-long}
+use Rattle.lists.proofs.Passing.{list_passed, list_alone, target_alone}
+use Rattle.lists.proofs.SignedList.{signed_too_long}
 use Rattle.queries.specs.Posing.{ReducedList}
 use Rattle.engine.specs.Calls.{Lent}
 use Rattle.subgroups.specs.Judging.{Doubled, sizes_asked}
-use Rattle.subgroups.proofs.Lists.{passes, all-inside, given_inside, ends-inside, list-doubled, list-reduced}
-use Rattle.subgroups.proofs.Verdicts.{signed-judged, signed-refused}
+use Rattle.subgroups.proofs.Lists.{passes, all_inside, given_inside, ends_inside, list_doubled, list_reduced}
+use Rattle.subgroups.proofs.Verdicts.{signed_judged, signed_refused}
 use native.Mathlib.Omega.{arith}
 use borrow.Author.Rules.{rules}
 use Rattle.subgroups.proofs.judging.judge_list.Statement.{statement}
@@ -61,7 +61,7 @@ room = (omega (arith, length-replicate {A = ℕ} most_of_signed_list 0), omega (
 
 -- the list has passed questions 7 to 10
 checked : (s : tie.Start) → Checked s.args.bytes.now s.args.ends.now
-checked s = list-alone s.args.bytes.now s.args.ends.now s.args.target.now s.requires
+checked s = list_alone s.args.bytes.now s.args.ends.now s.args.target.now s.requires
 
 few : (s : tie.Start) → length s.args.ends.now ≤ most_generators
 few s = (list_passed s.args.bytes.now s.args.ends.now s.args.target.now s.requires).few
@@ -70,13 +70,13 @@ few s = (list_passed s.args.bytes.now s.args.ends.now s.args.target.now s.requir
 letters-inside : (c : tie.After-given) → c.given.given.0.1.0.0 ≤ length (letters (written c))
 letters-inside c =
     let s = start c in
-    all-inside s.args.bytes.now s.args.ends.now _ _ (letters (written c)) (ends (written c)) _ (written c).reduce-signed.ensures
+    all_inside s.args.bytes.now s.args.ends.now _ _ (letters (written c)) (ends (written c)) _ (written c).reduce-signed.ensures
     (checked s) (few s) room.0 room.1 (written c).reduce-signed.auto.1.1.0 (written c).reduce-signed.auto.1.1.1.0 c.given.given.1
 
 ends_there : (c : tie.After-given) → 2 * length (start c).args.ends.now ≤ length (ends (written c))
 ends_there c =
     let s = start c in
-    ends-inside s.args.bytes.now s.args.ends.now _ _ (letters (written c)) (ends (written c)) _ (written c).reduce-signed.ensures
+    ends_inside s.args.bytes.now s.args.ends.now _ _ (letters (written c)) (ends (written c)) _ (written c).reduce-signed.ensures
     (checked s) (few s) room.0 room.1 (written c).reduce-signed.auto.1.1.0 (written c).reduce-signed.auto.1.1.1.0 c.given.given.1
 
 doubled : (c : tie.After-given)
@@ -84,7 +84,7 @@ doubled : (c : tie.After-given)
     c.given.given.0.0.0 (length (start c).args.ends.now)
 doubled c =
     let s = start c in
-    list-doubled s.args.bytes.now s.args.ends.now _ _ (letters (written c)) (ends (written c)) _ (written c).reduce-signed.ensures
+    list_doubled s.args.bytes.now s.args.ends.now _ _ (letters (written c)) (ends (written c)) _ (written c).reduce-signed.ensures
     (checked s) (few s) room.0 room.1 (written c).reduce-signed.auto.1.1.0 (written c).reduce-signed.auto.1.1.1.0 c.given.given.1
 
 slice-aggregate-reduce-signed : tie.Need-slice-aggregate-reduce-signed
@@ -131,12 +131,12 @@ judge-reduced-requires : tie.Need-judge-reduced-requires
 judge-reduced-requires k κs =
     let c = k.before.before.before.before.before.before.before.before.before in
     let s = start c in (
-      list-reduced s.args.bytes.now s.args.ends.now _ _ (letters (written c)) (ends (written c)) _ (written c).reduce-signed.ensures
+      list_reduced s.args.bytes.now s.args.ends.now _ _ (letters (written c)) (ends (written c)) _ (written c).reduce-signed.ensures
           (checked s) (few s) room.0 room.1 (written c).reduce-signed.auto.1.1.0 (written c).reduce-signed.auto.1.1.1.0 c.given.given.1,
       (
         given_inside s.args.bytes.now s.args.ends.now _ _ (letters (written c)) (ends (written c)) _ (written c).reduce-signed.ensures
             (checked s) (few s) room.0 room.1 (written c).reduce-signed.auto.1.1.0 (written c).reduce-signed.auto.1.1.1.0 c.given.given.1,
-        target-alone s.args.bytes.now s.args.ends.now s.args.target.now s.pre,
+        target_alone s.args.bytes.now s.args.ends.now s.args.target.now s.pre,
       ),
     )
 
@@ -144,9 +144,9 @@ returns : tie.Need-returns
 returns c =
     let asked = c.before.before.before.before.before in
     let s = begun asked in
-    signed-refused (gens s) (word s.args.target.now) s.args.n.0 (lent s) s.args.inverses.now
+    signed_refused (gens s) (word s.args.target.now) s.args.n.0 (lent s) s.args.inverses.now
     (refused_first (question11 (gens s)) (sizes s ∷ [])
-    (signed-too-long s.args.bytes.now s.args.ends.now _ _ _ _ _ asked.reduce-signed.ensures (checked s) room.0 room.1 c.before.refusal.given.1))
+    (signed_too_long s.args.bytes.now s.args.ends.now _ _ _ _ _ asked.reduce-signed.ensures (checked s) room.0 room.1 c.before.refusal.given.1))
 
 same_length : tie.Need-same-length
 same_length c = search rules
@@ -168,7 +168,7 @@ returns-2 k =
     let passed = passes s.args.bytes.now s.args.ends.now _ _ (letters (written c)) (ends (written c)) _ (written c).reduce-signed.ensures
     (checked s) (few s) room.0 room.1 (written c).reduce-signed.kept.1.1.0 (written c).reduce-signed.kept.1.1.1.0 c.given.given.1 in
     let last = j.judge-reduced.new.1.1.1.1.1.1 in
-    signed-judged (gens s) (word s.args.target.now) s.args.n.0 j.judge-reduced.result (lent s)
+    signed_judged (gens s) (word s.args.target.now) s.args.n.0 j.judge-reduced.result (lent s)
     (record { first = last.0; second = last.1.0; witness = last.1.1.0 }) s.args.inverses.now last.1.1.1.0
     (sym (passed_first (question11 (gens s)) (sizes s ∷ []) passed ∙ first_no_one (sizes s))) (j.judge-reduced.ensures (gens s) (doubled c))
 

@@ -15,7 +15,7 @@ use Rattle.lists.proofs.NormalList.{normal_ends_length}
 use Rattle.queries.specs.Posing.{Lent as Posing, HasRoom, ReducedList, PosesReduced}
 use Rattle.queries.specs.declared.Posed.{Posed}
 use Rattle.queries.specs.declared.Posed.TheVariants.{Ready}
-use Rattle.queries.proofs.PosedReady.{FormsReady, forms-ready}
+use Rattle.queries.proofs.PosedReady.{FormsReady, forms_ready}
 use Rattle.subgroups.specs.Judging.{Doubled}
 use native.Mathlib.Omega.{arith}
 use borrow.Author.Rules.{rules}
@@ -124,7 +124,7 @@ all-ready c gens d =
     let target = (start c).args.target.now in
     let letters = d.letters_are in
     let ends = d.ends_are in
-    forms-ready (with_inverses gens) (length (list-ends (start c))) (sym (ap length ends ∙ normal_ends_length 0 (with_inverses gens))) target
+    forms_ready (with_inverses gens) (length (list-ends (start c))) (sym (ap length ends ∙ normal_ends_length 0 (with_inverses gens))) target
     c.m.given.0.0 c.m.given.0.1.0 c.m.given.0.1.1.0 zeros (filled (posed c))
     (subst₂ ReducedList letters ends (start c).requires.0) (of_letters_short target (start c).requires.1.1)
     (subst₂

@@ -11,23 +11,23 @@ use Rattle.products.specs.Product.{inverses}
 use Rattle.lists.specs.NormalList.{total}
 use Rattle.subgroups.specs.declared.Part.{Part}
 use Rattle.subgroups.specs.Ends.{DoubledEnds}
-use Rattle.subgroups.proofs.FactorParts.{ends-inside, inverse-start, inverse-end}
+use Rattle.subgroups.proofs.FactorParts.{ends_inside, inverse_start, inverse_end}
 use borrow.Author.Rules.{rules}
 use Rattle.subgroups.proofs.parts.inverse_part.Statement.{statement}
 use Rattle.subgroups.proofs.parts.inverse_part.Tie as tie
 
 -- there are ends for the generators and for the inverses
 inside : (s : tie.Start) → s.args.generators + s.args.generators ≤ length s.args.ends.now
-inside s = ends-inside s.requires.0 s.args.ends.now s.args.generators s.args.given.0 s.requires.1
+inside s = ends_inside s.requires.0 s.args.ends.now s.args.generators s.args.given.0 s.requires.1
 
 -- where the form of the inverse begins and ends
 begins : (s : tie.Start) (gens : List Word) → DoubledEnds gens s.args.ends.now s.args.generators s.args.given.0 → s.args.i < s.args.generators
     → get_or (0 ∷ s.args.ends.now) (s.args.generators + s.args.i) 0 ≡ s.args.given.0 + total (take s.args.i (inverses gens))
-begins s gens d h = inverse-start gens s.args.ends.now s.args.generators s.args.given.0 d s.args.i (omega arith)
+begins s gens d h = inverse_start gens s.args.ends.now s.args.generators s.args.given.0 d s.args.i (omega arith)
 
 finishes : (s : tie.Start) (gens : List Word) → DoubledEnds gens s.args.ends.now s.args.generators s.args.given.0 → s.args.i < s.args.generators
     → get_or s.args.ends.now (s.args.generators + s.args.i) 0 ≡ s.args.given.0 + total (take (suc s.args.i) (inverses gens))
-finishes s gens d h = inverse-end gens s.args.ends.now s.args.generators s.args.given.0 d s.args.i h
+finishes s gens d h = inverse_end gens s.args.ends.now s.args.generators s.args.given.0 d s.args.i h
 
 add-end-before : tie.Need-overflow-add-end-before
 add-end-before c = omega (arith, inside c.before.before)

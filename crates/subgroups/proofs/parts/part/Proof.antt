@@ -12,8 +12,8 @@ use Rattle.lists.specs.Reducing.{Checked}
 use Rattle.lists.proofs.Passing.{list_passed}
 use Rattle.subgroups.specs.Questions.{of_factor}
 use Rattle.subgroups.specs.Ends.{DoubledEnds}
-use Rattle.subgroups.proofs.Lists.{list_checked, passes, ends-doubled}
-use Rattle.subgroups.proofs.Showing.{nothing-shown, factor-shown, factor-asked, list-refused}
+use Rattle.subgroups.proofs.Lists.{list_checked, passes, ends_doubled}
+use Rattle.subgroups.proofs.Showing.{nothing_shown, factor_shown, factor_asked, list_refused}
 use borrow.Author.Rules.{rules}
 use Rattle.subgroups.proofs.parts.part.Statement.{statement}
 use Rattle.subgroups.proofs.parts.part.Tie as tie
@@ -49,7 +49,7 @@ asked : (c : tie.After-given) → of_factor (start c).args.bytes.now (start c).a
 asked c =
     let w = written c in
     let s = begun w in
-    factor-asked s.args.bytes.now s.args.ends.now s.args.inverses s.args.number (checked c)
+    factor_asked s.args.bytes.now s.args.ends.now s.args.inverses s.args.number (checked c)
     (passes s.args.bytes.now s.args.ends.now _ _ _ (ends w) _ w.reduce-signed.ensures
     (checked c) (few c) room.0 room.1 w.reduce-signed.kept.1.1.0 w.reduce-signed.kept.1.1.1.0 c.given.given.1)
 
@@ -57,7 +57,7 @@ doubled : (c : tie.After-given) → DoubledEnds (gens (start c)) (ends (written 
 doubled c =
     let w = written c in
     let s = begun w in
-    ends-doubled s.args.bytes.now s.args.ends.now _ _ _ (ends w) _ w.reduce-signed.ensures
+    ends_doubled s.args.bytes.now s.args.ends.now _ _ _ (ends w) _ w.reduce-signed.ensures
     (checked c) (few c) room.0 room.1 w.reduce-signed.kept.1.1.0 w.reduce-signed.kept.1.1.1.0 c.given.given.1
 
 slice-aggregate-reduce-signed : tie.Need-slice-aggregate-reduce-signed
@@ -101,14 +101,14 @@ returns c =
     let w = c.before.before.before.before.before in
     let s = begun w in
     c.no_part.ensures
-    ∙ sym (list-refused s.args.bytes.now s.args.ends.now s.args.inverses s.args.number w.reduce-signed.ensures room.0 room.1 c.before.enum_told.given.1)
+    ∙ sym (list_refused s.args.bytes.now s.args.ends.now s.args.inverses s.args.number w.reduce-signed.ensures room.0 room.1 c.before.enum_told.given.1)
 
 returns-2 : tie.Need-returns-2
 returns-2 c =
     let t = c.before.before.before.before.before in
     let a = (start t).args in
     c.no-part2.ensures
-    ∙ sym (nothing-shown a.bytes.now a.ends.now a.inverses a.number
+    ∙ sym (nothing_shown a.bytes.now a.ends.now a.inverses a.number
     (asked t ∙ sym c.before.before.before.of-inverses.ensures ∙ c.before.enum-told2.given.1))
 
 returns-3 : tie.Need-returns-3
@@ -116,7 +116,7 @@ returns-3 c =
     let t = c.before.before.before.before.before.before in
     let a = (start t).args in
     c.factor-part.ensures (gens (start t)) (doubled t)
-    ∙ sym (factor-shown a.bytes.now a.ends.now a.inverses a.number
+    ∙ sym (factor_shown a.bytes.now a.ends.now a.inverses a.number
     (asked t ∙ sym c.before.before.before.before.of-inverses.ensures ∙ c.before.before.enum-told3.given.1))
 
 pub part-spec : {M : Type 1} → statement M

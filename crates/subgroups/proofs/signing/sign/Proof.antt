@@ -6,7 +6,7 @@ use lib.ListN.{length, set, get_or, length-set}
 use borrow.Author.Rules.{rules}
 use native.Mathlib.Omega.{arith}
 use Rattle.subgroups.specs.Signing.{signed_byte}
-use Rattle.subgroups.proofs.SignedFactors.{mapped, mapped_next, mapped-more, mapped-all}
+use Rattle.subgroups.proofs.SignedFactors.{mapped, mapped_next, mapped_more, mapped_all}
 use Rattle.subgroups.proofs.signing.sign.Statement.{statement}
 use Rattle.subgroups.proofs.signing.sign.Tie as tie
 
@@ -44,7 +44,7 @@ loop-again c =
     c.signed-number.ensures ∙ ap (λ (s : List ℕ). f (get_or s l.i 0)) l.invariant.2 ∙ ap f (mapped_next f old l.i (omega arith)) in (
       omega arith,
       length-set l.series l.i c.signed-number.result ∙ l.invariant.1,
-      ap₂ (λ (s : List ℕ) (v : ℕ). set s l.i v) l.invariant.2 value ∙ mapped-more f old l.i (omega arith),
+      ap₂ (λ (s : List ℕ) (v : ℕ). set s l.i v) l.invariant.2 value ∙ mapped_more f old l.i (omega arith),
     )
 
 same_length : tie.Need-same-length invariant-loop decreases-loop
@@ -54,7 +54,7 @@ returns : tie.Need-returns invariant-loop decreases-loop
 returns c =
     let l = c.before.loop in
     let a = c.before.before.before.args in
-    l.invariant.2 ∙ mapped-all (signed_byte a.generators) a.series.now l.i (omega (arith, l.invariant.1, c.loop-test.false))
+    l.invariant.2 ∙ mapped_all (signed_byte a.generators) a.series.now l.i (omega (arith, l.invariant.1, c.loop-test.false))
 
 pub sign-spec : {M : Type 1} → statement M
 sign-spec =

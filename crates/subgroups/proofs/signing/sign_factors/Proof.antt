@@ -8,7 +8,7 @@ use native.Mathlib.Omega.{arith}
 use borrow.Author.Rules.{rules}
 use Rattle.engine.specs.declared.Verdict.{Verdict}
 use Rattle.subgroups.specs.Signing.{signed_byte, signed_factors}
-use Rattle.subgroups.proofs.SignedFactors.{front-signed, front-missing}
+use Rattle.subgroups.proofs.SignedFactors.{front_signed, front_missing}
 use Rattle.subgroups.proofs.signing.sign_factors.Statement.{statement}
 use Rattle.subgroups.proofs.signing.sign_factors.Tie as tie
 
@@ -54,7 +54,7 @@ returns c =
     let g = a.generators in
     ap (λ (l : List ℕ). l ++ drop k.result w) signs.sign.ensures
     ∙ ap (λ (n : ℕ). map (signed_byte g) (take n w) ++ drop n w) k.ensures
-    ∙ sym (front-signed g count.verdict.given.0.0.0 w (omega (arith, k.ensures, c.before.before.before.before.if1.true)))
+    ∙ sym (front_signed g count.verdict.given.0.0.0 w (omega (arith, k.ensures, c.before.before.before.before.if1.true)))
     ∙ ap (λ (v : Verdict). signed_factors v g w) (sym count.verdict.given.1)
 
 -- src/signing.rt:37:1
@@ -63,7 +63,7 @@ returns-2 c =
     let count = c.before.before.before in
     let a = c.before.before.before.before.before.before.args in
     let w = a.witness.now in
-    sym (front-missing a.generators count.verdict.given.0.0.0 w (omega (arith, c.before.wide.ensures, c.if1.false)))
+    sym (front_missing a.generators count.verdict.given.0.0.0 w (omega (arith, c.before.wide.ensures, c.if1.false)))
     ∙ ap (λ (v : Verdict). signed_factors v a.generators w) (sym count.verdict.given.1)
 
 -- src/signing.rt:37:1

@@ -4,9 +4,9 @@ use Prim.Native.Nat.{ℕ, ◌*◌, ◌-◌, ◌≤◌, ◌<◌}
 use Rattle.tables.specs.Rules.{place, Rule}
 use Rattle.tables.specs.Levelling.{Passes, begin}
 use Rattle.tables.specs.Closing.{Used, skipped}
-use Rattle.tables.proofs.Places.{place_inside, place_past, next-stands}
-use Rattle.tables.proofs.Visiting.{passes-ready, passes-next}
-use Rattle.tables.proofs.Using.{used-bounded}
+use Rattle.tables.proofs.Places.{place_inside, place_past, next_stands}
+use Rattle.tables.proofs.Visiting.{passes_ready, passes_next}
+use Rattle.tables.proofs.Using.{used_bounded}
 use native.Mathlib.Omega.{arith}
 use Rattle.tables.proofs.closing.sweep.Statement.{statement}
 use Rattle.tables.proofs.closing.sweep.Tie as tie
@@ -35,7 +35,7 @@ seek-requires : tie.Need-seek-requires invariant-loop decreases-loop
 seek-requires c κs =
     let at-loop = c.before.before.before in
     let start = entered at-loop in
-    (passes-ready used-bounded start.pre.0 at-loop.loop.invariant.2, (c.before.if1.true, at-loop.loop.invariant.0))
+    (passes_ready used_bounded start.pre.0 at-loop.loop.invariant.2, (c.before.if1.true, at-loop.loop.invariant.0))
 
 use-pair-requires : tie.Need-use-pair-requires invariant-loop decreases-loop
 use-pair-requires c κs =
@@ -43,7 +43,7 @@ use-pair-requires c κs =
     let at-loop = at-if1.before.before in
     let start = entered at-loop in
     let p = start.pre in
-    (passes-ready used-bounded p.0 at-loop.loop.invariant.2, (p.1.0, (at-if1.if1.true, omega (arith, c.before.seek.ensures.inside, p.1.1))))
+    (passes_ready used_bounded p.0 at-loop.loop.invariant.2, (p.1.0, (at-if1.if1.true, omega (arith, c.before.seek.ensures.inside, p.1.1))))
 
 next-pair-requires : tie.Need-next-pair-requires invariant-loop decreases-loop
 next-pair-requires c κs =
@@ -63,7 +63,7 @@ loop-less c =
     let sought = at-seek.seek.ensures in
     let inside : place count l.pair.row l.pair.column < count * count = place_inside at-if1.if1.true l.invariant.0 in
     let column : at-seek.seek.result < count = omega (arith, sought.inside, start.pre.1.1) in
-    omega (arith, (next-stands count l.pair.row at-seek.seek.result column c.next-pair.ensures).1, sought.behind)
+    omega (arith, (next_stands count l.pair.row at-seek.seek.result column c.next-pair.ensures).1, sought.behind)
 
 loop-again : tie.Need-loop-preserved invariant-loop decreases-loop
 loop-again c =
@@ -80,10 +80,10 @@ loop-again c =
     let sought = at-seek.seek.ensures in
     let column : y < count = omega (arith, sought.inside, start.pre.1.1) in
     let here : place count x y < count * count = place_inside at-if1.if1.true column in
-    let (below, place-next) = next-stands count x y column next.ensures in (
+    let (below, place-next) = next_stands count x y column next.ensures in (
       below,
       omega (arith, place-next, here),
-      passes-next count x y next.result.row next.result.column column next.ensures sought.behind
+      passes_next count x y next.result.row next.result.column column next.ensures sought.behind
           (λ m behind inside. skipped (λ fresh. sought.without m inside behind (omega arith) (omega arith)) refl) at-use-pair.use-pair.ensures l.invariant.2,
     )
 
@@ -91,7 +91,7 @@ same_length : tie.Need-same-length invariant-loop decreases-loop
 same_length c =
     let at-loop = c.before.before in
     let ready = (entered at-loop).requires.0 in
-    (passes-ready used-bounded ready at-loop.loop.invariant.2).bounded.long ∙ sym ready.bounded.long
+    (passes_ready used_bounded ready at-loop.loop.invariant.2).bounded.long ∙ sym ready.bounded.long
 
 returns : tie.Need-returns invariant-loop decreases-loop
 returns c =

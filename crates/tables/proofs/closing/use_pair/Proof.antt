@@ -3,7 +3,7 @@ use mathlib.Core.Path.{refl, sym, ap, subst, ◌∙◌}
 use Prim.Native.Nat.{ℕ, ◌<◌}
 use lib.ListN.{length, set, length-set}
 use Rattle.levels.specs.Levels.{entry, Relaxed, Using}
-use Rattle.levels.proofs.Relaxing.{lowers-length}
+use Rattle.levels.proofs.Relaxing.{lowers_length}
 use Rattle.levels.proofs.Closing.{cleared_bounded}
 use Rattle.tables.specs.Rules.{place, Rule}
 use Rattle.tables.specs.Closing.{used, skipped}
@@ -45,7 +45,7 @@ same_length : tie.Need-same-length
 same_length c =
     let at-relax-pair = c.before.before in
     let at-place-of = at-relax-pair.before.before.before.before in
-    lowers-length at-relax-pair.relax-pair.ensures.lowers ∙ length-set (begun at-place-of).args.table.now at-place-of.place_of.result 0
+    lowers_length at-relax-pair.relax-pair.ensures.lowers ∙ length-set (begun at-place-of).args.table.now at-place-of.place_of.result 0
 
 returns : tie.Need-returns
 returns c =

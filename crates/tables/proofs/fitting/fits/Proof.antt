@@ -1,6 +1,6 @@
 -- Room first, then the shape, and then the children. Assumes nothing.
 use Rattle.refusals.proofs.Telling.{told, told_not, tells_same}
-use Rattle.tables.proofs.Exact.{shape-followed}
+use Rattle.tables.proofs.Exact.{shape_followed}
 use borrow.Author.Rules.{rules}
 use Rattle.tables.proofs.fitting.fits.Statement.{statement}
 use Rattle.tables.proofs.fitting.fits.Tie as tie
@@ -14,7 +14,7 @@ has-shape-requires c κs =
     (room.some, (room.letters, (room.rests, (room.children_r, room.children_s))))
 
 linked-requires : tie.Need-linked-requires
-linked-requires c κs = shape-followed (told c.before.has-shape.result c.if2.true c.before.has-shape.ensures)
+linked-requires c κs = shape_followed (told c.before.has-shape.result c.if2.true c.before.has-shape.ensures)
 
 returns : tie.Need-returns
 returns c =

@@ -2,7 +2,7 @@
 use mathlib.Core.Path.{sym, subst}
 use Rattle.refusals.proofs.Telling.{told, told_not}
 use Rattle.tables.specs.Nodes.{Finds, Front}
-use Rattle.tables.proofs.Finding.{rest-front, no_front}
+use Rattle.tables.proofs.Finding.{rest_front, no_front}
 use borrow.Author.Rules.{rules}
 use native.Mathlib.Omega.{arith}
 use Rattle.tables.proofs.nodes.rest_after.Statement.{statement}
@@ -24,7 +24,7 @@ returns-2 c =
     let a = at-if1.before.before.before.args in
     let begins = told _ at-if2.if2.true at-if2.before.begins.ensures in
     subst (Finds a.count (Front a.count a.letters.now a.rests.now a.letter a.p)) (sym c.entry.ensures.0)
-    (rest-front a.letters.now a.rests.now a.p at-if1.if1.false begins)
+    (rest_front a.letters.now a.rests.now a.p at-if1.if1.false begins)
 
 returns-3 : tie.Need-returns-3
 returns-3 c =

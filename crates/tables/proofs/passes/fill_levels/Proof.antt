@@ -4,7 +4,7 @@ use Prim.Native.Nat.{ℕ, ◌+◌, ◌-◌, ◌≤◌}
 use lib.ListN.{replicate}
 use Rattle.levels.proofs.Passing.{counts_bounded}
 use Rattle.tables.proofs.Steps.{ready}
-use Rattle.tables.proofs.Levelled.{Levelled, levelled-begins, levelled-more, levelled-full}
+use Rattle.tables.proofs.Levelled.{Levelled, levelled_begins, levelled_more, levelled_full}
 use borrow.Author.Rules.{rules}
 use native.Mathlib.Omega.{arith}
 use Rattle.tables.proofs.passes.fill_levels.Statement.{statement}
@@ -46,7 +46,7 @@ loop-holds c =
     let cleared = at_clear.clear.ensures ∙ ap (λ (m : ℕ). replicate m (a.n.0 + 1)) p.0 in (
       omega arith,
       omega arith,
-      levelled-begins a.count a.letters.now a.rests.now a.wholes.now p.1.1.1.1.0.s.followed.rest_earlier a.n.0
+      levelled_begins a.count a.letters.now a.rests.now a.wholes.now p.1.1.1.1.0.s.followed.rest_earlier a.n.0
           p.1.0 p.1.1.1.1.1 cleared at-start.start.ensures,
     )
 
@@ -81,7 +81,7 @@ loop-again c =
     let next = c.level-after.ensures in (
       omega (arith, next.above),
       next.bounded,
-      levelled-more a.count a.letters.now a.rests.now a.wholes.now p.1.1.1.1.0.s.followed.rest_earlier a.n.0
+      levelled_more a.count a.letters.now a.rests.now a.wholes.now p.1.1.1.1.0.s.followed.rest_earlier a.n.0
           l.invariant.0 at-if1.if1.true l.invariant.2 at-pass.pass.ensures next,
     )
 
@@ -95,7 +95,7 @@ returns c =
     let at-loop = c.before.before.before in
     let start = entered at-loop in
     let a = start.args in
-    levelled-full a.count a.letters.now a.rests.now a.wholes.now start.pre.1.1.1.1.0.s.followed.rest_earlier a.n.0
+    levelled_full a.count a.letters.now a.rests.now a.wholes.now start.pre.1.1.1.1.0.s.followed.rest_earlier a.n.0
     c.if1.false at-loop.loop.invariant.2
 
 pub fill-levels-spec : {M : Type 1} → statement M

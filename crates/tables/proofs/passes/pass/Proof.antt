@@ -4,8 +4,8 @@ use mathlib.Core.Path.{◌≡◌, refl, sym, subst, ◌∙◌}
 use Prim.Native.Nat.{ℕ, ◌*◌, ◌-◌, ◌≤◌, ◌<◌}
 use Rattle.tables.specs.Rules.{place, Rule}
 use Rattle.tables.specs.Levelling.{Visited, skipped, Passes, begin}
-use Rattle.tables.proofs.Places.{place_inside, place_past, next-stands}
-use Rattle.tables.proofs.Visiting.{passes-ready, passes-next, visited-bounded, passes-low}
+use Rattle.tables.proofs.Places.{place_inside, place_past, next_stands}
+use Rattle.tables.proofs.Visiting.{passes_ready, passes_next, visited_bounded, passes_low}
 use Rattle.levels.specs.Levels.{entry}
 use Rattle.refusals.proofs.Telling.{told}
 use native.Mathlib.Decide.{dec_lt}
@@ -44,7 +44,7 @@ returns c =
     let a = start.args in
     let counts = start.pre.0.bounded in
     let none = told c.before.absent.result c.if1.true c.before.absent.ensures in
-    passes-low
+    passes_low
     (λ p inside. elim (dec_lt a.k.0 (entry a.table.now p)) [
       | yes above ↦ absurd (none p inside (omega arith) (omega arith) (omega (arith, counts.high p (omega (arith, counts.long)))))
       | no low ↦ omega arith
@@ -63,7 +63,7 @@ seek-requires : tie.Need-seek-requires invariant-loop decreases-loop
 seek-requires c κs =
     let at-loop = c.before.before.before in
     let start = entered at-loop in
-    (passes-ready visited-bounded start.pre.0 at-loop.loop.invariant.2, (c.before.if2.true, at-loop.loop.invariant.0))
+    (passes_ready visited_bounded start.pre.0 at-loop.loop.invariant.2, (c.before.if2.true, at-loop.loop.invariant.0))
 
 visit-requires : tie.Need-visit-requires invariant-loop decreases-loop
 visit-requires c κs =
@@ -71,7 +71,7 @@ visit-requires c κs =
     let at-loop = at-if2.before.before in
     let start = entered at-loop in
     let p = start.pre in
-    (passes-ready visited-bounded p.0 at-loop.loop.invariant.2, (p.1.0, (at-if2.if2.true, omega (arith, c.before.seek.ensures.inside, p.1.1))))
+    (passes_ready visited_bounded p.0 at-loop.loop.invariant.2, (p.1.0, (at-if2.if2.true, omega (arith, c.before.seek.ensures.inside, p.1.1))))
 
 next-pair-requires : tie.Need-next-pair-requires invariant-loop decreases-loop
 next-pair-requires c κs =
@@ -91,7 +91,7 @@ loop-less c =
     let sought = at-seek.seek.ensures in
     let inside : place count l.pair.row l.pair.column < count * count = place_inside at-if2.if2.true l.invariant.0 in
     let column : at-seek.seek.result < count = omega (arith, sought.inside, start.pre.1.1) in
-    omega (arith, (next-stands count l.pair.row at-seek.seek.result column c.next-pair.ensures).1, sought.behind)
+    omega (arith, (next_stands count l.pair.row at-seek.seek.result column c.next-pair.ensures).1, sought.behind)
 
 loop-again : tie.Need-loop-preserved invariant-loop decreases-loop
 loop-again c =
@@ -108,10 +108,10 @@ loop-again c =
     let sought = at-seek.seek.ensures in
     let column : y < count = omega (arith, sought.inside, start.pre.1.1) in
     let here : place count x y < count * count = place_inside at-if2.if2.true column in
-    let (below, place-next) = next-stands count x y column next.ensures in (
+    let (below, place-next) = next_stands count x y column next.ensures in (
       below,
       omega (arith, place-next, here),
-      passes-next count x y next.result.row next.result.column column next.ensures sought.behind
+      passes_next count x y next.result.row next.result.column column next.ensures sought.behind
           (λ m behind inside. skipped (λ level. sought.without m inside behind (omega arith) (omega arith)) refl) at-visit.visit.ensures l.invariant.2,
     )
 
@@ -119,7 +119,7 @@ same-length-2 : tie.Need-same-length-2 invariant-loop decreases-loop
 same-length-2 c =
     let at-loop = c.before.before in
     let ready = (entered at-loop).requires.0 in
-    (passes-ready visited-bounded ready at-loop.loop.invariant.2).bounded.long ∙ sym ready.bounded.long
+    (passes_ready visited_bounded ready at-loop.loop.invariant.2).bounded.long ∙ sym ready.bounded.long
 
 returns-2 : tie.Need-returns-2 invariant-loop decreases-loop
 returns-2 c =

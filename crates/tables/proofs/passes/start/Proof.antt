@@ -5,7 +5,7 @@ use native.Mathlib.Nat.{le-mul_of_pos_right}
 use lib.ListN.{length}
 use Rattle.levels.specs.Levels.{Relaxed}
 use Rattle.levels.specs.Passes.{Upto}
-use Rattle.levels.proofs.Relaxing.{relaxed_one_missing, relaxed-begins, relaxed-turn, lowers-length}
+use Rattle.levels.proofs.Relaxing.{relaxed_one_missing, relaxed_begins, relaxed_turn, lowers_length}
 use Rattle.trees.specs.Tree.{at}
 use Rattle.tables.specs.Rules.{place}
 use Rattle.tables.specs.Levelling.{StartTurn}
@@ -31,10 +31,10 @@ whole-inside c =
     let p = start.requires in
     let l = at-loop.loop in
     let rows : a.count ≤ a.count * a.count = le-mul_of_pos_right a.count p.1.0 in
-    omega (arith, c.entry.ensures.0, p.1.1 l.j at-loop-test.loop-test.true, lowers-length l.invariant.0.lowers, p.0)
+    omega (arith, c.entry.ensures.0, p.1.1 l.j at-loop-test.loop-test.true, lowers_length l.invariant.0.lowers, p.0)
 
 loop-holds : tie.Need-loop-init invariant-loop decreases-loop
-loop-holds c = (relaxed-begins, omega arith)
+loop-holds c = (relaxed_begins, omega arith)
 
 entry-requires : tie.Need-entry-requires invariant-loop decreases-loop
 entry-requires c κs = search rules
@@ -57,14 +57,14 @@ loop-again c =
     let a = start.args in
     let l = at-loop.loop in
     let place_of : at_entry_lem.entry.result ≡ place a.count 0 (at a.wholes.now l.j) = omega (arith, at_entry_lem.entry.ensures.0) in (
-      relaxed-turn {Y = StartTurn a.count a.wholes.now} l.invariant.0
-          (relaxed_at _ _ _ _ (lowers-length l.invariant.0.lowers ∙ start.requires.0) place_of
+      relaxed_turn {Y = StartTurn a.count a.wholes.now} l.invariant.0
+          (relaxed_at _ _ _ _ (lowers_length l.invariant.0.lowers ∙ start.requires.0) place_of
           (rw at-relax.relax.ensures (relaxed_one_missing l.table at_entry_lem.entry.result (whole-inside at_entry_lem)))),
       omega arith,
     )
 
 same_length : tie.Need-same-length invariant-loop decreases-loop
-same_length c = lowers-length c.before.loop.invariant.0.lowers
+same_length c = lowers_length c.before.loop.invariant.0.lowers
 
 returns : tie.Need-returns invariant-loop decreases-loop
 returns c =

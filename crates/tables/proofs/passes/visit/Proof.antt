@@ -1,7 +1,7 @@
 -- The pair's entry is read at its place. Assumes nothing.
 use mathlib.Core.Path.{refl, sym, ap, ◌∙◌}
 use Rattle.levels.specs.Levels.{entry}
-use Rattle.levels.proofs.Relaxing.{lowers-length}
+use Rattle.levels.proofs.Relaxing.{lowers_length}
 use Rattle.tables.specs.Levelling.{relaxed, skipped}
 use native.Mathlib.Omega.{arith}
 use Rattle.tables.proofs.passes.visit.Statement.{statement}
@@ -28,7 +28,7 @@ relax-pair-requires : tie.Need-relax-pair-requires
 relax-pair-requires c κs = (begun c.before.before.before.before).requires
 
 same_length : tie.Need-same-length
-same_length c = lowers-length c.before.before.relax-pair.ensures.lowers
+same_length c = lowers_length c.before.before.relax-pair.ensures.lowers
 
 returns : tie.Need-returns
 returns c =

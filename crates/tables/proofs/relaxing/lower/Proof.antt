@@ -4,7 +4,7 @@ use Prim.Native.Nat.{ℕ}
 use lib.ListN.{set}
 use Rattle.levels.specs.Levels.{Relaxed}
 use Rattle.levels.specs.Passes.{Only}
-use Rattle.levels.proofs.Relaxing.{relaxed-one}
+use Rattle.levels.proofs.Relaxing.{relaxed_one}
 use borrow.Author.Rules.{rules}
 use Rattle.tables.proofs.relaxing.lower.Statement.{statement}
 use Rattle.tables.proofs.relaxing.lower.Tie as tie
@@ -42,7 +42,7 @@ returns c =
     let a = start.args in
     let t = a.table.now in
     subst (λ (v : ℕ). Relaxed a.k.0 (Only a.from a.to) t (set t a.to v)) (sym c.lesser.ensures)
-    (relaxed-one t a.from a.to refl start.requires.1.0)
+    (relaxed_one t a.from a.to refl start.requires.1.0)
 
 pub lower_spec : {M : Type 1} → statement M
 lower_spec =

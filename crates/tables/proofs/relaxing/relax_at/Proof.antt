@@ -1,7 +1,7 @@
 -- The place of the two nodes is inside the table. Assumes nothing.
 use Rattle.levels.proofs.Relaxing.{relaxed_one_missing}
 use Rattle.tables.specs.Relaxing.{One}
-use Rattle.tables.proofs.Steps.{relaxed_at, inside-relaxed, outside-relaxed}
+use Rattle.tables.proofs.Steps.{relaxed_at, inside_relaxed, outside_relaxed}
 use borrow.Author.Rules.{rules}
 use native.Mathlib.Omega.{arith}
 use Rattle.tables.proofs.relaxing.relax_at.Statement.{statement}
@@ -29,16 +29,16 @@ returns c =
     let at-if1 = at-if2.before in
     let start = at-if1.before.before in
     let a = start.args in
-    inside-relaxed (One a.count) at-if1.if1.true at-if2.if2.true
+    inside_relaxed (One a.count) at-if1.if1.true at-if2.if2.true
     (relaxed_at _ _ at-place-of.place_of.result _ start.requires.bounded.long at-place-of.place_of.ensures.0
     (rw at-relax.relax.ensures
     (relaxed_one_missing a.table.now at-place-of.place_of.result (omega (arith, at-place-of.place_of.ensures.1, start.requires.bounded.long)))))
 
 returns-2 : tie.Need-returns-2
-returns-2 c = outside-relaxed (One c.before.before.before.args.count) (λ row column. omega arith)
+returns-2 c = outside_relaxed (One c.before.before.before.args.count) (λ row column. omega arith)
 
 returns-3 : tie.Need-returns-3
-returns-3 c = outside-relaxed (One c.before.before.args.count) (λ row column. omega arith)
+returns-3 c = outside_relaxed (One c.before.before.args.count) (λ row column. omega arith)
 
 pub relax-at-spec : {M : Type 1} → statement M
 relax-at-spec =

@@ -1,6 +1,6 @@
 -- The sum is stored where it is less. Assumes nothing.
 use mathlib.Core.Path.{refl}
-use Rattle.levels.proofs.Relaxing.{relaxed-one}
+use Rattle.levels.proofs.Relaxing.{relaxed_one}
 use borrow.Author.Rules.{rules}
 use Rattle.tables.proofs.relaxing.relax_from.Statement.{statement}
 use Rattle.tables.proofs.relaxing.relax_from.Tie as tie
@@ -25,7 +25,7 @@ returns c =
     let at-relax = c.before.before in
     let start = at-relax.before.before.before.before.before in
     let a = start.args in
-    rw at-relax.relax.ensures (relaxed-one a.table.now a.from a.to refl start.requires.1.0)
+    rw at-relax.relax.ensures (relaxed_one a.table.now a.from a.to refl start.requires.1.0)
 
 pub relax-from-spec : {M : Type 1} → statement M
 relax-from-spec =

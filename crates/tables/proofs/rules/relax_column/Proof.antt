@@ -3,7 +3,7 @@ use mathlib.Core.Path.{◌∙◌}
 use Prim.Native.Nat.{◌+◌, ◌-◌, ◌≤◌}
 use Rattle.levels.specs.Levels.{Relaxed}
 use Rattle.levels.specs.Passes.{Upto}
-use Rattle.levels.proofs.Relaxing.{relaxed-begins, relaxed-turn, lowers-length}
+use Rattle.levels.proofs.Relaxing.{relaxed_begins, relaxed_turn, lowers_length}
 use Rattle.tables.specs.Relaxing.{ColumnTurn}
 use Rattle.tables.proofs.Steps.{ready_relaxed, relaxed_all}
 use borrow.Author.Rules.{rules}
@@ -18,7 +18,7 @@ abbrev decreases-loop : tie.decreases-loop
 decreases-loop table₀ count x y k i₀ table i = count - i
 
 loop-holds : tie.Need-loop-init invariant-loop decreases-loop
-loop-holds c = (omega arith, relaxed-begins)
+loop-holds c = (omega arith, relaxed_begins)
 
 add-loop : tie.Need-overflow-add-loop invariant-loop decreases-loop
 add-loop c = omega (arith, c.before.before.requires.0.few)
@@ -57,8 +57,8 @@ loop-again c =
     let a = start.args in
     let turn = ColumnTurn a.count a.x a.y in
     let i = at-loop.loop.i in
-    let first = relaxed-turn {Y = turn} at-loop.loop.invariant.1 at_first.relax-in-column.ensures in
-    (omega arith, relaxed_all turn (i + 1 + 1) (i + 2) (omega arith) (relaxed-turn {Y = turn} first at_second.relax-in-column2.ensures))
+    let first = relaxed_turn {Y = turn} at-loop.loop.invariant.1 at_first.relax-in-column.ensures in
+    (omega arith, relaxed_all turn (i + 1 + 1) (i + 2) (omega arith) (relaxed_turn {Y = turn} first at_second.relax-in-column2.ensures))
 
 relax-in-column-requires-3 : tie.Need-relax-in-column-requires-3 invariant-loop decreases-loop
 relax-in-column-requires-3 c κs =
@@ -70,7 +70,7 @@ same_length : tie.Need-same-length invariant-loop decreases-loop
 same_length c =
     let at_last = c.before.before in
     let at-loop = at_last.before.before.before.before in
-    lowers-length at_last.relax-in-column3.ensures.lowers ∙ lowers-length at-loop.loop.invariant.1.lowers
+    lowers_length at_last.relax-in-column3.ensures.lowers ∙ lowers_length at-loop.loop.invariant.1.lowers
 
 returns : tie.Need-returns invariant-loop decreases-loop
 returns c =
@@ -79,10 +79,10 @@ returns c =
     let a = at-loop.before.before.args in
     let turn = ColumnTurn a.count a.x a.y in
     let i = at-loop.loop.i in
-    relaxed_all turn (i + 1) a.count (omega arith) (relaxed-turn {Y = turn} at-loop.loop.invariant.1 at_last.relax-in-column3.ensures)
+    relaxed_all turn (i + 1) a.count (omega arith) (relaxed_turn {Y = turn} at-loop.loop.invariant.1 at_last.relax-in-column3.ensures)
 
 same-length-2 : tie.Need-same-length-2 invariant-loop decreases-loop
-same-length-2 c = lowers-length c.before.before.loop.invariant.1.lowers
+same-length-2 c = lowers_length c.before.before.loop.invariant.1.lowers
 
 returns-2 : tie.Need-returns-2 invariant-loop decreases-loop
 returns-2 c =

@@ -1,5 +1,5 @@
 -- First the row, then the column. Where x and y are one node, each entry would be lowered to more than itself. Assumes nothing.
-use Rattle.levels.proofs.Relaxing.{relaxed-then, lowers-length}
+use Rattle.levels.proofs.Relaxing.{relaxed_then, lowers_length}
 use mathlib.Core.Path.{◌∙◌}
 use Rattle.tables.proofs.Steps.{ready_relaxed, one_node_relaxed}
 use borrow.Author.Rules.{rules}
@@ -23,13 +23,13 @@ same_length : tie.Need-same-length
 same_length c =
     let at-relax-column = c.before.before in
     let at-relax-row = at-relax-column.before.before.before.before in
-    lowers-length at-relax-column.relax-column.ensures.lowers ∙ lowers-length at-relax-row.relax-row.ensures.lowers
+    lowers_length at-relax-column.relax-column.ensures.lowers ∙ lowers_length at-relax-row.relax-row.ensures.lowers
 
 returns-2 : tie.Need-returns-2
 returns-2 c =
     let at-relax-column = c.before.before in
     let at-relax-row = at-relax-column.before.before.before.before in
-    relaxed-then at-relax-row.relax-row.ensures at-relax-column.relax-column.ensures
+    relaxed_then at-relax-row.relax-row.ensures at-relax-column.relax-column.ensures
 
 pub relax-f-spec : {M : Type 1} → statement M
 relax-f-spec = tie.close (tie.spec returns relax-row-requires relax-column-requires same_length returns-2)

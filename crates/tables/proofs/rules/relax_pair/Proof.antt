@@ -1,7 +1,7 @@
 -- The four groups of rules, one after the other. Assumes nothing.
 use mathlib.Core.Path.{◌∙◌}
-use Rattle.levels.proofs.Relaxing.{lowers-length}
-use Rattle.tables.proofs.Pairs.{pair-relaxed}
+use Rattle.levels.proofs.Relaxing.{lowers_length}
+use Rattle.tables.proofs.Pairs.{pair_relaxed}
 use Rattle.tables.proofs.Steps.{ready_relaxed}
 use Rattle.tables.proofs.rules.relax_pair.Statement.{statement}
 use Rattle.tables.proofs.rules.relax_pair.Tie as tie
@@ -39,8 +39,8 @@ same_length c =
     let at-relax-s = at-relax-e.before.before.before.before in
     let at-relax-r = at-relax-s.before.before.before.before in
     let at-relax-f = at-relax-r.before.before.before.before in
-    lowers-length at-relax-e.relax-e.ensures.lowers ∙ lowers-length at-relax-s.relax-s.ensures.lowers
-    ∙ lowers-length at-relax-r.relax-r.ensures.lowers ∙ lowers-length at-relax-f.relax-f.ensures.lowers
+    lowers_length at-relax-e.relax-e.ensures.lowers ∙ lowers_length at-relax-s.relax-s.ensures.lowers
+    ∙ lowers_length at-relax-r.relax-r.ensures.lowers ∙ lowers_length at-relax-f.relax-f.ensures.lowers
 
 returns : tie.Need-returns
 returns c =
@@ -51,7 +51,7 @@ returns c =
     let start = at-relax-f.before.before.before.before.before.before.before in
     let a = start.args in
     let p = start.requires in
-    pair-relaxed a.count a.letters.now a.rests.now p.1.0.s.followed.rest_earlier a.x a.y p.1.1.0 p.1.1.1
+    pair_relaxed a.count a.letters.now a.rests.now p.1.0.s.followed.rest_earlier a.x a.y p.1.1.0 p.1.1.1
     at-relax-f.relax-f.ensures at-relax-r.relax-r.ensures at-relax-s.relax-s.ensures at-relax-e.relax-e.ensures
 
 pub relax-pair-spec : {M : Type 1} → statement M

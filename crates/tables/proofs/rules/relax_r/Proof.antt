@@ -1,8 +1,8 @@
 -- The child of x by R, with what is left of y without R and with the child of y by R. Assumes nothing.
-use Rattle.levels.proofs.Relaxing.{relaxed-then, lowers-length}
+use Rattle.levels.proofs.Relaxing.{relaxed_then, lowers_length}
 use mathlib.Core.Path.{◌∙◌}
 use Rattle.tables.specs.Relaxing.{One}
-use Rattle.tables.proofs.Finding.{not_found, none-joined, child-front, joined}
+use Rattle.tables.proofs.Finding.{not_found, none_joined, child_front, joined}
 use Rattle.tables.proofs.Steps.{ready_relaxed}
 use Rattle.tables.proofs.rules.relax_r.Statement.{statement}
 use Rattle.tables.proofs.rules.relax_r.Tie as tie
@@ -23,8 +23,8 @@ returns : tie.Need-returns
 returns c =
     let at-child = c.before in
     let start = begun at-child in
-    let none = not_found (child-front start.pre.1 at-child.child.ensures) c.if1.true in
-    relaxed-then (none-joined none) (none-joined none)
+    let none = not_found (child_front start.pre.1 at-child.child.ensures) c.if1.true in
+    relaxed_then (none_joined none) (none_joined none)
 
 rest-after-requires : tie.Need-rest-after-requires
 rest-after-requires c κs =
@@ -45,7 +45,7 @@ same_length : tie.Need-same-length
 same_length c =
     let at-relax-at2 = c.before.before in
     let at-relax-at = at-relax-at2.before.before.before.before.before in
-    lowers-length at-relax-at2.relax-at2.ensures.lowers ∙ lowers-length at-relax-at.relax-at.ensures.lowers
+    lowers_length at-relax-at2.relax-at2.ensures.lowers ∙ lowers_length at-relax-at.relax-at.ensures.lowers
 
 returns-2 : tie.Need-returns-2
 returns-2 c =
@@ -57,9 +57,9 @@ returns-2 c =
     let start = begun at-child in
     let count = start.args.count in
     let linked = start.pre.1 in
-    let front = child-front linked at-child.child.ensures in
-    let front-y = child-front linked at-child2.child2.ensures in
-    relaxed-then
+    let front = child_front linked at-child.child.ensures in
+    let front-y = child_front linked at-child2.child2.ensures in
+    relaxed_then
     (joined {Y = One count} front at-rest-after.rest-after.ensures at-relax-at.relax-at.ensures)
     (joined {Y = One count} front front-y at-relax-at2.relax-at2.ensures)
 

@@ -2,7 +2,7 @@
 use Prim.Native.Nat.{◌-◌, ◌≤◌}
 use Rattle.levels.specs.Levels.{Relaxed}
 use Rattle.levels.specs.Passes.{Upto}
-use Rattle.levels.proofs.Relaxing.{relaxed-begins, relaxed-turn, lowers-length}
+use Rattle.levels.proofs.Relaxing.{relaxed_begins, relaxed_turn, lowers_length}
 use Rattle.tables.specs.Relaxing.{RowTurn}
 use Rattle.tables.proofs.Places.{along, along_inside, square_bounded}
 use Rattle.tables.proofs.Steps.{ready_relaxed, sum_fits, relaxed_at, relaxed_all}
@@ -24,7 +24,7 @@ place-of-requires-2 : tie.Need-place-of-requires-2 invariant-loop decreases-loop
 place-of-requires-2 c κs = let p = c.before.before.requires in (p.0.few, (p.1.1, omega arith))
 
 loop-holds : tie.Need-loop-init invariant-loop decreases-loop
-loop-holds c = (omega arith, relaxed-begins)
+loop-holds c = (omega arith, relaxed_begins)
 
 add-lower : tie.Need-overflow-add-lower invariant-loop decreases-loop
 add-lower c =
@@ -69,10 +69,10 @@ loop-again c =
     let l = at-loop.loop in
     let from = along a.count a.y l.j at-place-of2.place-of2.result at-place-of2.place-of2.ensures.0 in
     let to = along a.count a.x l.j at-place-of.place_of.result at-place-of.place_of.ensures.0 in
-    (omega arith, relaxed-turn {Y = RowTurn a.count a.x a.y} l.invariant.1 (relaxed_at _ _ _ _ from to at-lower.lower.ensures))
+    (omega arith, relaxed_turn {Y = RowTurn a.count a.x a.y} l.invariant.1 (relaxed_at _ _ _ _ from to at-lower.lower.ensures))
 
 same_length : tie.Need-same-length invariant-loop decreases-loop
-same_length c = lowers-length c.before.loop.invariant.1.lowers
+same_length c = lowers_length c.before.loop.invariant.1.lowers
 
 returns : tie.Need-returns invariant-loop decreases-loop
 returns c =

@@ -1,9 +1,9 @@
 -- The child of x by S and its child, what is left of y without S and without two, and the child of y by S. Assumes nothing.
 use mathlib.Core.Path.{◌∙◌}
-use Rattle.levels.proofs.Relaxing.{relaxed-then, lowers-length}
+use Rattle.levels.proofs.Relaxing.{relaxed_then, lowers_length}
 use Rattle.tables.specs.Nodes.{Front}
 use Rattle.tables.specs.Relaxing.{One}
-use Rattle.tables.proofs.Finding.{not_found, none-joined, child-front, front-node, finds-through, joined}
+use Rattle.tables.proofs.Finding.{not_found, none_joined, child_front, front_node, finds_through, joined}
 use Rattle.tables.proofs.Steps.{ready_relaxed}
 use Rattle.tables.proofs.rules.relax_s.Statement.{statement}
 use Rattle.tables.proofs.rules.relax_s.Tie as tie
@@ -27,8 +27,8 @@ returns : tie.Need-returns
 returns c =
     let at-child = c.before in
     let start = begun at-child in
-    let none = not_found (child-front start.pre.1 at-child.child.ensures) c.if1.true in
-    relaxed-then (relaxed-then (none-joined (λ p inside through. none through.0 through.1 through.2)) (none-joined none)) (none-joined none)
+    let none = not_found (child_front start.pre.1 at-child.child.ensures) c.if1.true in
+    relaxed_then (relaxed_then (none_joined (λ p inside through. none through.0 through.1 through.2)) (none_joined none)) (none_joined none)
 
 rest-after-requires : tie.Need-rest-after-requires
 rest-after-requires c κs =
@@ -63,8 +63,8 @@ same_length c =
     let at-relax-at3 = c.before.before in
     let at-relax-at2 = at-relax-at3.before.before.before.before.before in
     let at-relax-at = first at-relax-at2 in
-    lowers-length at-relax-at3.relax-at3.ensures.lowers ∙ lowers-length at-relax-at2.relax-at2.ensures.lowers
-    ∙ lowers-length at-relax-at.relax-at.ensures.lowers
+    lowers_length at-relax-at3.relax-at3.ensures.lowers ∙ lowers_length at-relax-at2.relax-at2.ensures.lowers
+    ∙ lowers_length at-relax-at.relax-at.ensures.lowers
 
 returns-2 : tie.Need-returns-2
 returns-2 c =
@@ -81,15 +81,15 @@ returns-2 c =
     let letters = start.args.letters.now in
     let rests = start.args.rests.now in
     let linked = start.pre.1 in
-    let front = child-front linked at-child.child.ensures in
+    let front = child_front linked at-child.child.ensures in
     let front-twice =
-    finds-through {Q = λ m z. Front count letters rests 83 z m} (λ z fronts. front-node linked.followed fronts) front
-    (child-front linked at-child2.child2.ensures) in
+    finds_through {Q = λ m z. Front count letters rests 83 z m} (λ z fronts. front_node linked.followed fronts) front
+    (child_front linked at-child2.child2.ensures) in
     let rest = at-rest-after.rest-after.ensures in
-    let rest-twice = finds-through {Q = λ m z. Front count letters rests 83 m z} (λ z fronts. fronts.1) rest at-rest-after2.rest-after2.ensures in
-    let front-y = child-front linked at-child3.child3.ensures in
-    relaxed-then
-    (relaxed-then (joined {Y = One count} front-twice rest at-relax-at.relax-at.ensures)
+    let rest-twice = finds_through {Q = λ m z. Front count letters rests 83 m z} (λ z fronts. fronts.1) rest at-rest-after2.rest-after2.ensures in
+    let front-y = child_front linked at-child3.child3.ensures in
+    relaxed_then
+    (relaxed_then (joined {Y = One count} front-twice rest at-relax-at.relax-at.ensures)
     (joined {Y = One count} front rest-twice at-relax-at2.relax-at2.ensures))
     (joined {Y = One count} front front-y at-relax-at3.relax-at3.ensures)
 

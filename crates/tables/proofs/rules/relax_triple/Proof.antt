@@ -3,12 +3,12 @@ use mathlib.Core.Path.{ap, ◌∙◌}
 use mathlib.Core.Logic.{◌⊎◌}
 use Prim.Native.Nat.{ℕ, ◌<◌}
 use Rattle.levels.specs.Passes.{Only}
-use Rattle.levels.proofs.Relaxing.{relaxed-none, relaxed-then, lowers-length}
+use Rattle.levels.proofs.Relaxing.{relaxed_none, relaxed_then, lowers_length}
 use Rattle.refusals.proofs.Telling.{told, told_not}
 use Rattle.tables.specs.Rules.{place}
 use Rattle.tables.proofs.Forward.{rest_inside}
-use Rattle.tables.proofs.Finding.{rest-front, no_front}
-use Rattle.tables.proofs.Steps.{ready_relaxed, sum_fits, relaxed_at, found-relaxed}
+use Rattle.tables.proofs.Finding.{rest_front, no_front}
+use Rattle.tables.proofs.Steps.{ready_relaxed, sum_fits, relaxed_at, found_relaxed}
 use borrow.Author.Rules.{rules}
 use native.Mathlib.Omega.{arith}
 use Rattle.tables.proofs.rules.relax_triple.Statement.{statement}
@@ -78,7 +78,7 @@ same_length : tie.Need-same-length
 same_length c =
     let at_second = c.before.before in
     let at_first = at_second.before.before.before.before.before.before in
-    lowers-length at_second.relax-from2.ensures.lowers ∙ lowers-length at_first.relax-from.ensures.lowers
+    lowers_length at_second.relax-from2.ensures.lowers ∙ lowers_length at_first.relax-from.ensures.lowers
 
 returns : tie.Need-returns
 returns c =
@@ -97,10 +97,10 @@ returns c =
     let begins = told _ at-if1.if1.taken at-if1.before.begins.ensures in
     let below = p.1.1.1.1.1.1 in
     let rest = at_wide.wide.ensures in
-    found-relaxed (λ t q d. Only (place count a.v a.b) (place count a.a t) q d ⊎ Only (place count t a.a) (place count a.b a.v) q d)
-    (rest-front a.letters.now a.rests.now a.b below begins)
+    found_relaxed (λ t q d. Only (place count a.v a.b) (place count a.a t) q d ⊎ Only (place count t a.a) (place count a.b a.v) q d)
+    (rest_front a.letters.now a.rests.now a.b below begins)
     (omega (arith, rest, rest_below at_wide))
-    (relaxed-then
+    (relaxed_then
     (relaxed_at at-place-of.place_of.result _ at-place-of2.place-of2.result _ at-place-of.place_of.ensures.0
     (at-place-of2.place-of2.ensures.0 ∙ ap (place count a.a) rest) at_first.relax-from.ensures)
     (relaxed_at at-place-of3.place-of3.result _ at-place-of4.place-of4.result _
@@ -112,7 +112,7 @@ returns-2 c =
     let start = c.before.before.before.before.before in
     let a = start.args in
     let none = no_front a.letters.now a.rests.now a.b (told_not _ c.if1.false c.before.begins.ensures) in
-    relaxed-none (λ q d turn. none turn.0 turn.2)
+    relaxed_none (λ q d turn. none turn.0 turn.2)
 
 pub relax-triple-spec : {M : Type 1} → statement M
 relax-triple-spec =

@@ -2,9 +2,9 @@
 use Prim.Native.Nat.{◌-◌, ◌≤◌}
 use Rattle.levels.specs.Levels.{Relaxed}
 use Rattle.levels.specs.Passes.{Upto}
-use Rattle.levels.proofs.Relaxing.{relaxed-begins, relaxed-turn, lowers-length}
+use Rattle.levels.proofs.Relaxing.{relaxed_begins, relaxed_turn, lowers_length}
 use Rattle.tables.specs.Relaxing.{TripleTurn, Triples}
-use Rattle.tables.proofs.Steps.{ready_relaxed, relaxed_all, inside-relaxed, outside-relaxed}
+use Rattle.tables.proofs.Steps.{ready_relaxed, relaxed_all, inside_relaxed, outside_relaxed}
 use borrow.Author.Rules.{rules}
 use native.Mathlib.Omega.{arith}
 use Rattle.tables.proofs.rules.relax_triples.Statement.{statement}
@@ -19,15 +19,15 @@ decreases-loop table₀ count letters rests a v k b₀ table b = count - b
 returns : tie.Need-returns invariant-loop decreases-loop
 returns c =
     let start = c.before.before.before.before in
-    let a = start.args in outside-relaxed (Triples a.count a.letters.now a.rests.now) (λ row column. omega arith)
+    let a = start.args in outside_relaxed (Triples a.count a.letters.now a.rests.now) (λ row column. omega arith)
 
 returns-2 : tie.Need-returns-2 invariant-loop decreases-loop
 returns-2 c =
     let start = c.before.before.before.before.before in
-    let a = start.args in outside-relaxed (Triples a.count a.letters.now a.rests.now) (λ row column. omega arith)
+    let a = start.args in outside_relaxed (Triples a.count a.letters.now a.rests.now) (λ row column. omega arith)
 
 loop-holds : tie.Need-loop-init invariant-loop decreases-loop
-loop-holds c = (omega arith, relaxed-begins)
+loop-holds c = (omega arith, relaxed_begins)
 
 relax-triple-requires : tie.Need-relax-triple-requires invariant-loop decreases-loop
 relax-triple-requires c κs =
@@ -51,10 +51,10 @@ loop-again c =
     let start = at-loop.before.before.before.before.before.before in
     let a = start.args in
     let turn = TripleTurn a.count a.letters.now a.rests.now a.a a.v in
-    (omega arith, relaxed-turn {Y = turn} at-loop.loop.invariant.1 at-relax-triple.relax-triple.ensures)
+    (omega arith, relaxed_turn {Y = turn} at-loop.loop.invariant.1 at-relax-triple.relax-triple.ensures)
 
 same_length : tie.Need-same-length invariant-loop decreases-loop
-same_length c = lowers-length c.before.loop.invariant.1.lowers
+same_length c = lowers_length c.before.loop.invariant.1.lowers
 
 returns-3 : tie.Need-returns-3 invariant-loop decreases-loop
 returns-3 c =
@@ -63,7 +63,7 @@ returns-3 c =
     let start = at-if1.before.before.before.before in
     let a = start.args in
     let turn = TripleTurn a.count a.letters.now a.rests.now a.a a.v in
-    inside-relaxed (Triples a.count a.letters.now a.rests.now) at-if1.if1.false at-if2.if2.false
+    inside_relaxed (Triples a.count a.letters.now a.rests.now) at-if1.if1.false at-if2.if2.false
     (relaxed_all turn c.before.loop.b a.count (omega arith) c.before.loop.invariant.1)
 
 pub relax-triples-spec : {M : Type 1} → statement M

@@ -1,7 +1,7 @@
 -- Each answer is by the tests on the way. Assumes nothing.
 use lib.ListN.{length}
 use Rattle.refusals.proofs.Telling.{tells_same}
-use Rattle.trees.proofs.Ends.{ends_rise, fits-ends}
+use Rattle.trees.proofs.Ends.{ends_rise, fits_ends}
 use borrow.Author.Rules.{rules}
 use Rattle.trees.proofs.fitting.fits.Statement.{statement}
 use Rattle.trees.proofs.fitting.fits.Tie as tie
@@ -50,7 +50,7 @@ returns-7 c =
       room_s = c.before.before.if5.false;
       room_wholes = c.before.if6.false;
     })
-    (λ f. fits-ends f)
+    (λ f. fits_ends f)
     c.ends-fit.ensures
 
 pub fits-spec : {M : Type 1} → statement M

@@ -1,5 +1,5 @@
 -- The child is there, or a node is added. Assumes nothing.
-use Rattle.trees.proofs.Growth.{child-found, child-made}
+use Rattle.trees.proofs.Growth.{child_found, child_made}
 use native.Mathlib.Omega.{arith}
 use borrow.Author.Rules.{rules}
 use Rattle.trees.proofs.growing.child_by.Statement.{statement}
@@ -17,7 +17,7 @@ returns c = λ a b differ is.
     let x = start.args in
     let e = c.before.entry.ensures.0 in
     rw e
-    (child-found
+    (child_found
     differ
     x.letters.now
     x.rests.now
@@ -54,7 +54,7 @@ returns-2 c = λ a b differ is.
     let x = start.args in
     let made = added.add-node.ensures in
     rw (made.0, made.1, made.2, made.3)
-    (child-made
+    (child_made
     differ
     x.letters.now
     x.rests.now

@@ -5,10 +5,10 @@ use Prim.Native.Nat.{ℕ, ◌-◌, ◌≤◌}
 use lib.ListN.{length}
 use Rattle.trees.specs.Tree.{at}
 use Rattle.trees.specs.Growing.{node_slices, Remains, Read}
-use Rattle.trees.proofs.Ends.{fits-same}
+use Rattle.trees.proofs.Ends.{fits_same}
 use Rattle.trees.proofs.Behind.{at_same}
-use Rattle.trees.proofs.Remaining.{remains_same, remains_more, remains-root}
-use Rattle.trees.proofs.Listed.{read-begins}
+use Rattle.trees.proofs.Remaining.{remains_same, remains_more, remains_root}
+use Rattle.trees.proofs.Listed.{read_begins}
 use borrow.Author.Rules.{rules}
 use native.Mathlib.Omega.{arith}
 use Rattle.trees.proofs.reading.read_all.Statement.{statement}
@@ -53,7 +53,7 @@ loop-holds c =
     let start = begun called in
     let a = start.args in
     let made = called.make-root.ensures in (
-      read-begins
+      read_begins
           a.bytes.now
           a.ends.now
           _
@@ -80,7 +80,7 @@ read-generator-requires c κs =
     let called = before-loop test in
     let k = called.make-root.kept in
     let start = begun called in
-    (test.loop-test.true, (fits-same start.pre l.3 (l.4 ∙ k.0) (l.5 ∙ k.1.0) (l.6 ∙ k.1.1.0) l.7, l.0))
+    (test.loop-test.true, (fits_same start.pre l.3 (l.4 ∙ k.0) (l.5 ∙ k.1.0) (l.6 ∙ k.1.1.0) l.7, l.0))
 
 add-i : tie.Need-overflow-add-i invariant-loop decreases-loop
 add-i c =
@@ -131,7 +131,7 @@ returns c =
     let a = start.args in
     let made = called.make-root.ensures in
     let all_read = l.invariant.0 in
-    let root = remains-root a.letters.now a.rests.now a.children-r.now a.children-s.now made.0 made.1 made.2 in
+    let root = remains_root a.letters.now a.rests.now a.children-r.now a.children-s.now made.0 made.1 made.2 in
     (rw (← all) all_read, remains_more _ _ _ (omega (arith, all_read.counted, all_read.grown.nodes.some)) root l.invariant.1)
 
 pub read-all-spec : {M : Type 1} → statement M

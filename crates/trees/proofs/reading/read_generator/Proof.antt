@@ -1,5 +1,5 @@
 -- The generator runs from the end before it to its own. Assumes nothing.
-use Rattle.trees.proofs.Listed.{generator-rises, generator-within, generator-room, read_more}
+use Rattle.trees.proofs.Listed.{generator_rises, generator_within, generator_room, read_more}
 use native.Mathlib.Omega.{arith}
 use borrow.Author.Rules.{rules}
 use Rattle.trees.proofs.reading.read_generator.Statement.{statement}
@@ -29,8 +29,8 @@ read-backwards-requires c κs =
     let t = start.pre.1.1 in
     let from = read.before.end_Before.ensures in
     let end = read.entry.ensures.0 in (
-      (generator-rises bytes ends f h t _ _ from end, generator-within bytes ends f h t _ _ from end),
-      (generator-room bytes ends f h t _ _ from end, (t.words, t.counted, t.grown)),
+      (generator_rises bytes ends f h t _ _ from end, generator_within bytes ends f h t _ _ from end),
+      (generator_room bytes ends f h t _ _ from end, (t.words, t.counted, t.grown)),
     )
 
 cast-wholes : tie.Need-overflow-cast-wholes
@@ -42,7 +42,7 @@ cast-wholes c =
     let s = called.read-backwards.ensures in
     let tree = s.grew t.words t.counted t.grown in
     let from = read.before.end_Before.ensures in
-    let room = generator-room start.args.bytes.now start.args.ends.now start.pre.1.0 start.pre.0 t _ _ from read.entry.ensures.0 in
+    let room = generator_room start.args.bytes.now start.args.ends.now start.pre.1.0 start.pre.0 t _ _ from read.entry.ensures.0 in
     omega (arith, s.few, tree.inside, tree.counted, room.few)
 
 mul-wholes : tie.Need-overflow-mul-wholes

@@ -4,7 +4,7 @@ use Prim.Native.Nat.{◌-◌, ◌≤◌}
 use lib.ListN.{length}
 use Rattle.derivations.specs.Ways.{world}
 use Rattle.witness.specs.Choosing.{BestBelow, Undecided}
-use Rattle.witness.proofs.Best.{choosable_on, best-further, undecided-further, way-low, decided, looked-through}
+use Rattle.witness.proofs.Best.{choosable_on, best_further, undecided_further, way_low, decided, looked_through}
 use native.Mathlib.Omega.{arith}
 use borrow.Author.Rules.{rules}
 use Rattle.witness.proofs.choosing.best_way.Statement.{statement}
@@ -45,7 +45,7 @@ try-way-requires c κs =
     let at-loop = c.before.before.before.before.before in
     let k = (begun at-loop).requires in
     let v = at-loop.loop.invariant in
-    let low = way-low k _ at-loop.before.ways.ensures _ c.before.before.before.before.loop-test.true in
+    let low = way_low k _ at-loop.before.ways.ensures _ c.before.before.before.before.loop-test.true in
     (choosable_on k v.0 v.1 v.2 v.3, (v.5, (v.6, low)))
 
 same_length : tie.Need-same-length invariant-loop decreases-loop
@@ -93,8 +93,8 @@ loop-again c =
       kept.1.1.0 ∙ v.2,
       kept.1.1.1.0 ∙ v.3,
       omega (arith, now.before.before.before.before.before.loop-test.taken),
-      best-further k _ _ _ now.try-way.ensures,
-      undecided-further k _ _ _ now.try-way.ensures c.if1.false v.6,
+      best_further k _ _ _ now.try-way.ensures,
+      undecided_further k _ _ _ now.try-way.ensures c.if1.false v.6,
     )
 
 same-length-5 : tie.Need-same-length-5 invariant-loop decreases-loop
@@ -113,7 +113,7 @@ returns-2 : tie.Need-returns-2 invariant-loop decreases-loop
 returns-2 c =
     let at-loop = c.before in
     let l = at-loop.loop in
-    looked-through (begun at-loop).requires _ at-loop.before.ways.ensures l.best l.d c.loop-test.false l.invariant.4 l.invariant.5
+    looked_through (begun at-loop).requires _ at-loop.before.ways.ensures l.best l.d c.loop-test.false l.invariant.4 l.invariant.5
 
 pub best-way-spec : {M : Type 1} → statement M
 best-way-spec =

@@ -1,6 +1,6 @@
 -- The way d is better where nothing was found or it is before what was. Assumes nothing.
 use native.Mathlib.Omega.{arith}
-use Rattle.witness.proofs.Best.{best-first, best-lead, best-earlier, best-kept}
+use Rattle.witness.proofs.Best.{best_first, best_lead, best_earlier, best_kept}
 use borrow.Author.Rules.{rules}
 use Rattle.witness.proofs.choosing.better.Statement.{statement}
 use Rattle.witness.proofs.choosing.better.Tie as tie
@@ -18,7 +18,7 @@ add-result c = search rules
 returns : tie.Need-returns
 returns c =
     let p = c.before.before.before.before.before.before.before.before.before.before.before.before.before.requires in
-    best-first p.0 _ p.1.1.0 _ c.if1.true p.1.0
+    best_first p.0 _ p.1.1.0 _ c.if1.true p.1.0
 
 sub-is-before : tie.Need-overflow-sub-is-before
 sub-is-before c = search rules
@@ -27,7 +27,7 @@ is-before-requires : tie.Need-is-before-requires
 is-before-requires c κs =
     let start = begun c in
     let p = start.pre in
-    let lead = best-lead p.0 _ p.1.1.0 start.args.best (omega (arith, c.before.before.before.before.if1.false)) p.1.0 in
+    let lead = best_lead p.0 _ p.1.1.0 start.args.best (omega (arith, c.before.before.before.before.if1.false)) p.1.0 in
     (p.0, (p.1.1.0, lead.candidate))
 
 add-result-2 : tie.Need-overflow-add-result-2
@@ -50,7 +50,7 @@ returns-2 c =
     let answer = asked c.before in
     let p = (begun answer.before).requires in
     let some = answer.before.before.before.before.before.if1.left in
-    best-earlier p.0 _ p.1.1.0 _ (omega (arith, some)) p.1.0 _ answer.is-before.ensures c.if2.true
+    best_earlier p.0 _ p.1.1.0 _ (omega (arith, some)) p.1.0 _ answer.is-before.ensures c.if2.true
 
 same-length-5 : tie.Need-same-length-5
 same-length-5 c = search rules
@@ -69,7 +69,7 @@ returns-3 c =
     let answer = asked c.before in
     let p = (begun answer.before).requires in
     let some = answer.before.before.before.before.before.if1.left in
-    best-kept p.0 _ p.1.1.0 _ (omega (arith, some)) p.1.0 _ answer.is-before.ensures c.if2.false
+    best_kept p.0 _ p.1.1.0 _ (omega (arith, some)) p.1.0 _ answer.is-before.ensures c.if2.false
 
 pub better-spec : {M : Type 1} → statement M
 better-spec =

@@ -2,8 +2,8 @@
 use mathlib.Core.Path.{refl}
 use Rattle.derivations.specs.Ways.{world}
 use Rattle.witness.specs.Choosing.{Choosable}
-use Rattle.witness.proofs.Numbers.{item-place}
-use Rattle.witness.proofs.Best.{foremost-of, none_of, chosen-foremost}
+use Rattle.witness.proofs.Numbers.{item_place}
+use Rattle.witness.proofs.Best.{foremost_of, none_of, chosen_foremost}
 use native.Mathlib.Omega.{arith}
 use borrow.Author.Rules.{rules}
 use Rattle.witness.proofs.choosing.choose.Statement.{statement}
@@ -62,12 +62,12 @@ cast-set-choice : tie.Need-overflow-cast-set-choice
 cast-set-choice c =
     let best = found c.before.before in
     let some = c.before.if1.false in
-    omega (arith, (foremost-of (choosable best.before) best.best-way.result best.best-way.ensures (omega (arith, some))).few)
+    omega (arith, (foremost_of (choosable best.before) best.best-way.result best.best-way.ensures (omega (arith, some))).few)
 
 set-choice-requires : tie.Need-set-choice-requires
 set-choice-requires c κs =
     let k = choosable (found c.before.before).before in
-    (k.item.0, item-place k.small _ _ k.item)
+    (k.item.0, item_place k.small _ _ k.item)
 
 same-length-6 : tie.Need-same-length-6
 same-length-6 c = search rules
@@ -88,7 +88,7 @@ returns-2 : tie.Need-returns-2
 returns-2 c =
     let best = found c.before.before.before.before.before in
     let some = c.before.before.before.before.if1.false in
-    chosen-foremost (choosable best.before) _ best.best-way.ensures (omega (arith, some)) _ _ c.before.before.set-choice.ensures
+    chosen_foremost (choosable best.before) _ best.best-way.ensures (omega (arith, some)) _ _ c.before.before.set-choice.ensures
 
 pub choose_spec : {M : Type 1} → statement M
 choose_spec =

@@ -1,6 +1,6 @@
 -- Both stacks hold the parts of one way alone, and so spell its series. Assumes nothing.
 use native.Mathlib.Omega.{arith}
-use Rattle.witness.proofs.Candidates.{way-pushable, way-standing, way-spelled}
+use Rattle.witness.proofs.Candidates.{way_pushable, way_standing, way_spelled}
 use borrow.Author.Rules.{rules}
 use Rattle.witness.proofs.choosing.is_before.Statement.{statement}
 use Rattle.witness.proofs.choosing.is_before.Tie as tie
@@ -21,7 +21,7 @@ parts-requires c κs = search rules
 push-parts-requires : tie.Need-push-parts-requires
 push-parts-requires c κs =
     let p = (begun c).requires in
-    way-pushable p.0 _ p.1.0 _ c.parts.ensures _ _ p.0.room_x p.0.room_y
+    way_pushable p.0 _ p.1.0 _ c.parts.ensures _ _ p.0.room_x p.0.room_y
 
 parts-requires-2 : tie.Need-parts-requires-2
 parts-requires-2 c κs = search rules
@@ -29,7 +29,7 @@ parts-requires-2 c κs = search rules
 push-parts-requires-2 : tie.Need-push-parts-requires-2
 push-parts-requires-2 c κs =
     let p = (begun (first-pushed c).before).requires in
-    way-pushable p.0 _ p.1.1 _ c.parts2.ensures _ _ p.0.room_u p.0.room_v
+    way_pushable p.0 _ p.1.1 _ c.parts2.ensures _ _ p.0.room_u p.0.room_v
 
 before-requires : tie.Need-before-requires
 before-requires c κs =
@@ -37,8 +37,8 @@ before-requires c κs =
     let first = first-pushed second.before in
     let p = (begun first.before).requires in
     let k = p.0 in
-    let first_on = way-standing k _ p.1.0 _ first.before.parts.ensures in
-    let second-on = way-standing k _ p.1.1 _ second.before.parts2.ensures in
+    let first_on = way_standing k _ p.1.0 _ first.before.parts.ensures in
+    let second-on = way_standing k _ p.1.1 _ second.before.parts2.ensures in
     let in-first = first.push-parts.kept in
     let in-second = second.push-parts2.kept in (
       k.small,
@@ -69,8 +69,8 @@ returns c =
     let first = first-pushed second.before in
     let p = (begun first.before).requires in
     λ r s j k. c.before.before.before.before.before.before.before.before.before2.ensures r s
-    (way-spelled p.0 _ p.1.0 _ first.before.parts.ensures _ r first.push-parts.ensures.0 j)
-    (way-spelled p.0 _ p.1.1 _ second.before.parts2.ensures _ s second.push-parts2.ensures.0 k)
+    (way_spelled p.0 _ p.1.0 _ first.before.parts.ensures _ r first.push-parts.ensures.0 j)
+    (way_spelled p.0 _ p.1.1 _ second.before.parts2.ensures _ s second.push-parts2.ensures.0 k)
 
 pub is-before-spec : {M : Type 1} → statement M
 is-before-spec =

@@ -1,6 +1,6 @@
 -- A way that is tight is a candidate, since none before it decides. Assumes nothing.
 use Rattle.refusals.proofs.Telling.{told, told_not}
-use Rattle.witness.proofs.Best.{candidate-told, tried-tight, tried-loose}
+use Rattle.witness.proofs.Best.{candidate_told, tried_tight, tried_loose}
 use borrow.Author.Rules.{rules}
 use Rattle.witness.proofs.choosing.try_way.Statement.{statement}
 use Rattle.witness.proofs.choosing.try_way.Tie as tie
@@ -20,7 +20,7 @@ better-requires c κs =
     let asked = c.before.before.before.before.before in
     let p = (begun asked).requires in
     let tight = told _ c.before.before.before.before.if1.true asked.is-tight.ensures in
-    (p.0, (p.1.0, (candidate-told p.0 _ _ asked.before.parts.ensures tight p.1.1.0, p.1.1.1)))
+    (p.0, (p.1.0, (candidate_told p.0 _ _ asked.before.parts.ensures tight p.1.1.0, p.1.1.1)))
 
 alone-requires : tie.Need-alone-requires
 alone-requires c κs = search rules
@@ -42,13 +42,13 @@ returns c =
     let made = c.before.before.before.before.before.before.before.before.before in
     let asked = made.before.before.before.before.before.before in
     let tight = told _ made.before.before.before.before.before.if1.true asked.is-tight.ensures in
-    tried-tight (begun asked).requires.0 _ _ asked.before.parts.ensures tight _ made.better.ensures _ c.alone.ensures
+    tried_tight (begun asked).requires.0 _ _ asked.before.parts.ensures tight _ made.better.ensures _ c.alone.ensures
 
 returns-2 : tie.Need-returns-2
 returns-2 c =
     let asked = c.before in
     let loose = told_not _ c.if1.false asked.is-tight.ensures in
-    tried-loose (begun asked).requires.0 _ _ asked.before.parts.ensures loose _ (begun asked).requires.1.0
+    tried_loose (begun asked).requires.0 _ _ asked.before.parts.ensures loose _ (begun asked).requires.1.0
 
 pub try-way-spec : {M : Type 1} → statement M
 try-way-spec =

@@ -5,9 +5,9 @@ use Prim.Native.Nat.{◌+◌}
 use lib.ListN.{length}
 use Rattle.derivations.specs.Ways.{world}
 use Rattle.witness.specs.Choices.{choice_at}
-use Rattle.witness.specs.Stacks.{stacked, stepsLeft}
+use Rattle.witness.specs.Stacks.{stacked, steps_left}
 use Rattle.witness.specs.Comparing.{GoingOn}
-use Rattle.witness.proofs.Deciding.{going-on-none, going-on-then, step_falls, answers-over}
+use Rattle.witness.proofs.Deciding.{going_on_none, going_on_then, step_falls, answers_over}
 use borrow.Author.Rules.{rules}
 use Rattle.witness.proofs.comparing.before.Statement.{statement}
 use Rattle.witness.proofs.comparing.before.Tie as tie
@@ -24,7 +24,7 @@ invariant-loop target count letters rests children-r children-s wholes counts ch
 abbrev decreases-loop : tie.decreases-loop
 decreases-loop target count letters rests children-r children-s wholes counts choices xs₀ ys₀ us₀ vs₀ height other first₀ second₀ xs ys us vs first second =
     let w = world count letters rests children-r children-s wholes target counts in
-    stepsLeft w (stacked xs ys first) + stepsLeft w (stacked us vs second)
+    steps_left w (stacked xs ys first) + steps_left w (stacked us vs second)
 
 -- the first state, from the loop; the loop from a step; and the step from what it answered
 abbrev begun : tie.At-loop invariant-loop decreases-loop → tie.Start invariant-loop decreases-loop
@@ -42,7 +42,7 @@ onward c = c.before.before.before.before.before.before.before.before.before.befo
 loop-holds : tie.Need-loop-init invariant-loop decreases-loop
 loop-holds c =
     let p = c.before.before.before.before.before.before.before.before.before.before.before.before.requires.1.1 in
-    (refl, refl, refl, refl, going-on-none p.0 p.1)
+    (refl, refl, refl, refl, going_on_none p.0 p.1)
 
 compare-once-requires : tie.Need-compare-once-requires invariant-loop decreases-loop
 compare-once-requires c κs =
@@ -72,7 +72,7 @@ returns c =
     let s = step.compare-once in
     let l = s.last.1.1.1.1.1.1.1.1.1 in
     let answer = c.before.answer.given in
-    answers-over (entered step).loop.inv.4 l.0 l.1.0 l.1.1.0 l.1.1.1.0 s.result s.ensures
+    answers_over (entered step).loop.inv.4 l.0 l.1.0 l.1.1.0 l.1.1.1.0 s.result s.ensures
     answer.0.0 answer.1
 
 enum-known-a : tie.Need-enum-known-a invariant-loop decreases-loop
@@ -99,7 +99,7 @@ loop-again c =
       k.1.0 ∙ v.1,
       k.1.1.0 ∙ v.2,
       k.1.1.1.0 ∙ v.3,
-      going-on-then v.4 l.0 l.1.0 l.1.1.0 l.1.1.1.0 s.result s.ensures
+      going_on_then v.4 l.0 l.1.0 l.1.1.0 l.1.1.1.0 s.result s.ensures
           heights.0.0 heights.0.1.0 heights.1,
     )
 

@@ -3,8 +3,8 @@ use native.Mathlib.Omega.{arith}
 use borrow.Author.Rules.{rules}
 use Rattle.derivations.specs.Ways.{world}
 use Rattle.witness.specs.Choices.{choice_at}
-use Rattle.witness.proofs.Deciding.{answers-none, answers-none-other, goes-on-first, goes-on-second}
-use Rattle.witness.proofs.Deciding.{Both, answers-differ, goes-on-same, first-on-top, second-on-top}
+use Rattle.witness.proofs.Deciding.{answers_none, answers_none_other, goes_on_first, goes_on_second}
+use Rattle.witness.proofs.Deciding.{Both, answers_differ, goes_on_same, first_on_top, second_on_top}
 use Rattle.witness.proofs.comparing.compare_once.Statement.{statement}
 use Rattle.witness.proofs.comparing.compare_once.Tie as tie
 
@@ -40,12 +40,12 @@ both c =
 returns : tie.Need-returns
 returns c =
     let p = (begun c.before).pre.1.1 in
-    answers-none p.0 p.1 c.if1.taken
+    answers_none p.0 p.1 c.if1.taken
 
 returns-2 : tie.Need-returns-2
 returns-2 c =
     let p = (begun c.before.before).pre.1.1 in
-    answers-none-other p.0 p.1 c.if2.taken
+    answers_none_other p.0 p.1 c.if2.taken
 
 sub-entry : tie.Need-sub-entry
 sub-entry c = search rules
@@ -94,7 +94,7 @@ take-apart-requires c κs =
     let told = c.before.before.before.before in
     let p = (begun (high told).before.before).pre in
     let tops = both told in
-    (p.0, (p.1.0, (tops.first, (tops.some.0, first-on-top tops told.compare-tops.ensures c.before.before.enum-told2.given.1))))
+    (p.0, (p.1.0, (tops.first, (tops.some.0, first_on_top tops told.compare-tops.ensures c.before.before.enum-told2.given.1))))
 
 enum-told-3 : tie.Need-enum-told-3
 enum-told-3 c = search rules
@@ -104,7 +104,7 @@ take-apart-requires-2 c κs =
     let told = c.before.before.before.before in
     let p = (begun (high told).before.before).pre in
     let tops = both told in
-    (p.0, (p.1.0, (tops.second, (tops.some.1, second-on-top tops told.compare-tops.ensures c.before.before.enum-told3.given.1))))
+    (p.0, (p.1.0, (tops.second, (tops.some.1, second_on_top tops told.compare-tops.ensures c.before.before.enum-told3.given.1))))
 
 same_length : tie.Need-same-length
 same_length c = search rules
@@ -121,7 +121,7 @@ same-length-4 c = search rules
 returns-3 : tie.Need-returns-3
 returns-3 c =
     let told = c.before.before in
-    goes-on-same (both told) told.compare-tops.ensures c.enum_told.given.1
+    goes_on_same (both told) told.compare-tops.ensures c.enum_told.given.1
 
 same-length-5 : tie.Need-same-length-5
 same-length-5 c = search rules
@@ -139,7 +139,7 @@ returns-4 : tie.Need-returns-4
 returns-4 c =
     let told = c.before.before.before in
     let smaller = c.before.smaller.given in
-    answers-differ (both told) told.compare-tops.ensures smaller.0.0 smaller.1
+    answers_differ (both told) told.compare-tops.ensures smaller.0.0 smaller.1
 
 same-length-9 : tie.Need-same-length-9
 same-length-9 c = search rules
@@ -157,7 +157,7 @@ returns-5 : tie.Need-returns-5
 returns-5 c =
     let taken = c.before.before.before.before in
     let told = taken.before.before.before.before.before in
-    goes-on-first taken.take-apart.ensures (both told).second
+    goes_on_first taken.take-apart.ensures (both told).second
 
 same-length-13 : tie.Need-same-length-13
 same-length-13 c = search rules
@@ -175,7 +175,7 @@ returns-6 : tie.Need-returns-6
 returns-6 c =
     let taken = c.before.before.before.before in
     let told = taken.before.before.before.before.before in
-    goes-on-second (both told).first taken.take-apart2.ensures
+    goes_on_second (both told).first taken.take-apart2.ensures
 
 pub compare-once-spec : {M : Type 1} → statement M
 compare-once-spec =

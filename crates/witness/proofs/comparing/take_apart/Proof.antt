@@ -2,7 +2,7 @@
 use mathlib.Core.Path.{ap}
 use Prim.Native.Nat.{ℕ, ◌-◌}
 use Rattle.derivations.specs.Ways.{world}
-use Rattle.witness.proofs.Taking.{Top, top-place, top-coded, parts-room, taken_apart}
+use Rattle.witness.proofs.Taking.{Top, top_place, top_coded, parts_room, taken_apart}
 use native.Mathlib.Omega.{arith}
 use borrow.Author.Rules.{rules}
 use Rattle.witness.proofs.comparing.take_apart.Statement.{statement}
@@ -47,10 +47,10 @@ entry-requires-2 : tie.Need-entry-requires-2
 entry-requires-2 c κs = search rules
 
 choice-requires : tie.Need-choice-requires
-choice-requires c κs = top-place (top c)
+choice-requires c κs = top_place (top c)
 
 sub-way : tie.Need-overflow-sub-way
-sub-way c = omega (arith, top-coded (top (read c)), c.choice.ensures.0)
+sub-way c = omega (arith, top_coded (top (read c)), c.choice.ensures.0)
 
 sub-push-parts : tie.Need-overflow-sub-push-parts
 sub-push-parts c = search rules
@@ -61,7 +61,7 @@ parts-requires c κs = search rules
 push-parts-requires : tie.Need-push-parts-requires
 push-parts-requires c κs =
     let way = chosen c in
-    parts-room (top (read way)) (ap (λ (n : ℕ). n - 1) way.choice.ensures.0) c.parts.ensures
+    parts_room (top (read way)) (ap (λ (n : ℕ). n - 1) way.choice.ensures.0) c.parts.ensures
 
 same_length : tie.Need-same-length
 same_length c = search rules

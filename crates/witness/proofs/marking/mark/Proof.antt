@@ -4,8 +4,8 @@ use Prim.Native.Nat.{◌-◌, ◌≤◌}
 use Rattle.derivations.specs.Ways.{World, world}
 use Rattle.witness.specs.Choices.{marked}
 use Rattle.witness.specs.Marking.{Keeps}
-use Rattle.witness.proofs.Places.{item-place, keeps_then, keeps-stored, small-kept}
-use Rattle.witness.proofs.Marks.{WaysMarked, ways-none, ways-more, ways-decided, ways-all}
+use Rattle.witness.proofs.Places.{item_place, keeps_then, keeps_stored, small_kept}
+use Rattle.witness.proofs.Marks.{WaysMarked, ways_none, ways_more, ways_decided, ways_all}
 use native.Mathlib.Omega.{arith}
 use borrow.Author.Rules.{rules}
 use Rattle.witness.proofs.marking.mark.Statement.{statement}
@@ -36,7 +36,7 @@ kept-first c =
     let start = begun c in
     let a = start.args in
     subst (Keeps (in_world start) a.choices.now) (sym c.set-choice.ensures)
-    (keeps-stored (in_world start) a.choices.now a.x a.y marked start.pre.1)
+    (keeps_stored (in_world start) a.choices.now a.x a.y marked start.pre.1)
 
 kept : (c : tie.At-loop invariant-loop decreases-loop) → Keeps (in_world (entered c)) (entered c).args.choices.now c.loop.choices
 kept c =
@@ -45,7 +45,7 @@ kept c =
 set-choice-requires : tie.Need-set-choice-requires invariant-loop decreases-loop
 set-choice-requires c κs =
     let start = c.before.before.before.before.before.before.before.before.before in
-    (start.requires.1.0, omega (arith, item-place (in_world start) start.args.x start.args.y start.requires.1, start.requires.0.room))
+    (start.requires.1.0, omega (arith, item_place (in_world start) start.args.x start.args.y start.requires.1, start.requires.0.room))
 
 ways-requires : tie.Need-ways-requires invariant-loop decreases-loop
 ways-requires c κs = search rules
@@ -54,13 +54,13 @@ loop-holds : tie.Need-loop-init invariant-loop decreases-loop
 loop-holds c =
     let at_set = c.before.before.before in
     let start = begun at_set in
-    (omega arith, ways-none (in_world start) start.args.x start.args.y)
+    (omega arith, ways_none (in_world start) start.args.x start.args.y)
 
 mark-way-requires : tie.Need-mark-way-requires invariant-loop decreases-loop
 mark-way-requires c κs =
     let at-loop = c.before.before in
     let start = entered at-loop in
-    (small-kept (in_world start) start.pre.0 (kept at-loop), start.pre.1)
+    (small_kept (in_world start) start.pre.0 (kept at-loop), start.pre.1)
 
 same_length : tie.Need-same-length invariant-loop decreases-loop
 same_length c =
@@ -72,7 +72,7 @@ returns c =
     let at-way = c.before.before.before in
     let at-loop = at-way.before.before.before in
     let start = entered at-loop in
-    ways-decided (in_world start) start.args.x start.args.y start.args.choices.now
+    ways_decided (in_world start) start.args.x start.args.y start.args.choices.now
     at-loop.before.before.before.before.set-choice.ensures at-loop.loop.d at-loop.loop.invariant.1 at-way.mark-way.ensures c.if1.true
 
 add-d : tie.Need-overflow-add-d invariant-loop decreases-loop
@@ -86,7 +86,7 @@ loop-again c =
     let at-way = c.before.before.before in
     let at-loop = at-way.before.before.before in
     let start = entered at-loop in
-    (omega arith, ways-more (in_world start) start.args.x start.args.y at-loop.loop.d at-loop.loop.invariant.1 at-way.mark-way.ensures)
+    (omega arith, ways_more (in_world start) start.args.x start.args.y at-loop.loop.d at-loop.loop.invariant.1 at-way.mark-way.ensures)
 
 same-length-2 : tie.Need-same-length-2 invariant-loop decreases-loop
 same-length-2 c = (kept c.before).long
@@ -95,7 +95,7 @@ returns-2 : tie.Need-returns-2 invariant-loop decreases-loop
 returns-2 c =
     let at-loop = c.before in
     let start = entered at-loop in
-    ways-all (in_world start) start.args.x start.args.y start.args.choices.now
+    ways_all (in_world start) start.args.x start.args.y start.args.choices.now
     at-loop.before.before.before.before.set-choice.ensures at-loop.loop.d start.pre.1.0
     (omega (arith, c.loop-test.false, at-loop.before.ways.ensures)) at-loop.loop.invariant.1
 

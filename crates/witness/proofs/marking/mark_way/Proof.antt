@@ -6,8 +6,8 @@ use Rattle.refusals.proofs.Telling.{told, told_not}
 use Rattle.derivations.specs.Derivations.{Alone, Tight}
 use Rattle.derivations.specs.Ways.{World, world, parts_in, weight_in}
 use Rattle.witness.specs.Marking.{PartsWithin, with_needs}
-use Rattle.witness.proofs.Lowering.{tight-lower}
-use Rattle.witness.proofs.Marks.{parts_within, marks-tight, marks-loose}
+use Rattle.witness.proofs.Lowering.{tight_lower}
+use Rattle.witness.proofs.Marks.{parts_within, marks_tight, marks_loose}
 use borrow.Author.Rules.{rules}
 use Rattle.witness.proofs.marking.mark_way.Statement.{statement}
 use Rattle.witness.proofs.marking.mark_way.Tie as tie
@@ -46,7 +46,7 @@ need-parts-requires c κs =
     let ps = parts_in w a.x a.y a.d in
     subst (PartsWithin a.count (length a.choices.now)) (sym at-tight.before.parts.ensures)
     (parts_within w a.x a.y (length a.choices.now) ps start.pre.0.room
-    (tight-lower w a.x a.y ps (tight at-tight c.before.if1.true)))
+    (tight_lower w a.x a.y ps (tight at-tight c.before.if1.true)))
 
 alone-requires : tie.Need-alone-requires
 alone-requires c κs = search rules
@@ -62,7 +62,7 @@ returns c =
     let start = begun at-tight.before in
     let a = start.args in
     let same = at-tight.before.parts.ensures in
-    marks-tight (in_world start) a.x a.y a.d c.alone.result start.pre.0.room (tight at-tight at-if1.if1.true)
+    marks_tight (in_world start) a.x a.y a.d c.alone.result start.pre.0.room (tight at-tight at-if1.if1.true)
     (at-needs.need-parts.ensures ∙ ap (with_needs a.count a.choices.now) same)
     (λ is_true. subst (Alone a.x) same (told c.alone.result is_true c.alone.ensures))
 
@@ -72,7 +72,7 @@ returns-2 c =
     let start = begun at-tight.before in
     let a = start.args in
     let w = in_world start in
-    marks-loose w a.x a.y a.d
+    marks_loose w a.x a.y a.d
     (λ t. told_not at-tight.is-tight.result c.if1.false at-tight.is-tight.ensures
     (subst (Tight (weight_in w) a.x a.y) (sym at-tight.before.parts.ensures) t))
 

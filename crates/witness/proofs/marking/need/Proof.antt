@@ -1,6 +1,6 @@
 -- A factor, an item that is wanted already, and one that is not. Assumes nothing.
 use mathlib.Core.Path.{sym, ◌∙◌}
-use Rattle.witness.proofs.Marks.{need-factor, need-wanted, need-new}
+use Rattle.witness.proofs.Marks.{need_factor, need_wanted, need_new}
 use native.Mathlib.Omega.{arith}
 use borrow.Author.Rules.{rules}
 use Rattle.witness.proofs.marking.need.Statement.{statement}
@@ -11,7 +11,7 @@ abbrev begun : tie.After-choice → tie.Start
 begun c = c.before.before.before.before
 
 returns : tie.Need-returns
-returns c = let a = c.before.before.args in sym (need-factor a.count a.choices.now a.x a.y c.if1.true)
+returns c = let a = c.before.before.args in sym (need_factor a.count a.choices.now a.x a.y c.if1.true)
 
 choice-requires : tie.Need-choice-requires
 choice-requires c κs = (omega (arith, c.before.if1.false), c.before.before.before.requires (omega (arith, c.before.if1.false)))
@@ -31,7 +31,7 @@ returns-2 c =
     let a = (begun at-choice).args in
     c.before.before.set-choice.ensures
     ∙ sym
-    (need-new a.count a.choices.now a.x a.y at-choice.before.before.if1.false (sym at-choice.choice.ensures.0 ∙ at-if2.if2.true))
+    (need_new a.count a.choices.now a.x a.y at-choice.before.before.if1.false (sym at-choice.choice.ensures.0 ∙ at-if2.if2.true))
 
 same-length-2 : tie.Need-same-length-2
 same-length-2 c = search rules
@@ -41,7 +41,7 @@ returns-3 c =
     let at-choice = c.before in
     let a = (begun at-choice).args in
     sym
-    (need-wanted a.count a.choices.now a.x a.y at-choice.before.before.if1.false
+    (need_wanted a.count a.choices.now a.x a.y at-choice.before.before.if1.false
     (λ e. c.if2.false (at-choice.choice.ensures.0 ∙ e)))
 
 pub need-spec : {M : Type 1} → statement M

@@ -3,7 +3,7 @@ use mathlib.Core.Path.{sym, ap, subst, ◌∙◌}
 use mathlib.Core.List.{List}
 use Prim.Native.Nat.{ℕ}
 use lib.ListN.{length}
-use Rattle.witness.specs.Marking.{PartsWithin, withNeed, with_needs}
+use Rattle.witness.specs.Marking.{PartsWithin, with_need, with_needs}
 use native.Mathlib.Omega.{arith}
 use borrow.Author.Rules.{rules}
 use Rattle.witness.proofs.marking.need_parts.Statement.{statement}
@@ -54,7 +54,7 @@ returns-2 c =
     let a = at-match.before.before.before.args in
     let second = at-match.p2.given.0.1.1 in
     c.before.before.need3.ensures
-    ∙ ap (λ (l : List ℕ). withNeed a.count l second.0 second.1.0) at_first.need2.ensures
+    ∙ ap (λ (l : List ℕ). with_need a.count l second.0 second.1.0) at_first.need2.ensures
     ∙ ap (with_needs a.count a.choices.now) (sym at-match.p2.given.1)
 
 returns-3 : tie.Need-returns-3

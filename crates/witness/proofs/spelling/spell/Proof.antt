@@ -7,10 +7,10 @@ use lib.ListN.{length}
 use Rattle.derivations.specs.Derivations.{Firsts}
 use Rattle.derivations.specs.Ways.{world, parts_in, weight_in}
 use Rattle.witness.specs.Choices.{choice_at}
-use Rattle.witness.specs.Stacks.{stacked, stepsLeft}
+use Rattle.witness.specs.Stacks.{stacked, steps_left}
 use Rattle.witness.specs.Spelling.{Halfway}
-use Rattle.witness.proofs.Numbers.{item-entries}
-use Rattle.witness.proofs.Halfway.{halfway-start, halfway-done}
+use Rattle.witness.proofs.Numbers.{item_entries}
+use Rattle.witness.proofs.Halfway.{halfway_start, halfway_done}
 use native.Mathlib.Omega.{arith}
 use Rattle.witness.proofs.spelling.spell.Statement.{statement}
 use Rattle.witness.proofs.spelling.spell.Tie as tie
@@ -28,7 +28,7 @@ invariant-loop target count letters rests children-r children-s wholes counts ch
 
 abbrev decreases-loop : tie.decreases-loop
 decreases-loop target count letters rests children-r children-s wholes counts choices xs₀ ys₀ witness₀ x y top₀ xs ys witness top =
-    stepsLeft (world count letters rests children-r children-s wholes target counts) (stacked xs ys top.height)
+    steps_left (world count letters rests children-r children-s wholes target counts) (stacked xs ys top.height)
 
 -- the first state, from what is pushed; that, from the loop; and the loop, from a step
 abbrev begun : tie.After-push invariant-loop decreases-loop → tie.Start invariant-loop decreases-loop
@@ -44,7 +44,7 @@ push-requires : tie.Need-push-requires invariant-loop decreases-loop
 push-requires c κs =
     let p = c.before.before.before.before.before.before.before.before.before.before.before.before.before.requires in
     let rooms = p.1.0 in
-    let fits = item-entries p.0 _ _ p.1.1.0.1 in
+    let fits = item_entries p.0 _ _ p.1.1.0.1 in
     (omega (arith, rooms.0), omega (arith, rooms.1), fits.0, fits.1)
 
 loop-holds : tie.Need-loop-init invariant-loop decreases-loop
@@ -63,7 +63,7 @@ loop-holds c =
       (
         settled.series,
         settled.firsts,
-        halfway-start _ _ _ _ _ _ _ _ _ item.1 (inr coded) light (omega (arith, rooms.0, push.auto.0)) (omega (arith, rooms.1, push.auto.1.0)) fits
+        halfway_start _ _ _ _ _ _ _ _ _ item.1 (inr coded) light (omega (arith, rooms.0, push.auto.0)) (omega (arith, rooms.1, push.auto.1.0)) fits
             settled.firsts push.ensures.0,
       ),
     )
@@ -101,7 +101,7 @@ same-length-3 c = c.before.before.loop.invariant.2
 returns : tie.Need-returns invariant-loop decreases-loop
 returns c =
     let v = c.before.before.loop.invariant.3 in
-    halfway-done _ _ _ _ _ v.0 _ _ _ _ _ v.1 c.if1.false v.2
+    halfway_done _ _ _ _ _ v.0 _ _ _ _ _ v.1 c.if1.false v.2
 
 pub spell-spec : {M : Type 1} → statement M
 spell-spec =

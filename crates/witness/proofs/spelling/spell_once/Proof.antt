@@ -1,6 +1,6 @@
 -- The item on top is a factor or not. Assumes nothing.
 use mathlib.Core.Path.{sym, ◌∙◌}
-use Rattle.witness.proofs.Halfway.{factor-room, further-factor, further-apart}
+use Rattle.witness.proofs.Halfway.{factor_room, further_factor, further_apart}
 use native.Mathlib.Omega.{arith}
 use borrow.Author.Rules.{rules}
 use Rattle.witness.proofs.spelling.spell_once.Statement.{statement}
@@ -32,7 +32,7 @@ write-factor-requires : tie.Need-write-factor-requires
 write-factor-requires c κs =
     let p = (begun (asked c)).requires in
     let is-factor = sym (asked c).entry.ensures.0 ∙ c.before.before.before.if1.true in
-    factor-room _ _ _ _ _ _ _ _ p.1.1.1 is-factor c.entry2.ensures.0 p.1.1.0.2 p.0
+    factor_room _ _ _ _ _ _ _ _ p.1.1.1 is-factor c.entry2.ensures.0 p.1.1.0.2 p.0
 
 same_length : tie.Need-same-length
 same_length c = search rules
@@ -49,7 +49,7 @@ returns c =
     let read = wrote.before in
     let p = (begun (asked read)).requires in
     let is-factor = sym (asked read).entry.ensures.0 ∙ read.before.before.before.if1.true in
-    further-factor _ _ _ _ _ _ _ _ p.1.1.1 is-factor read.entry2.ensures.0 p.1.1.0.2.standing
+    further_factor _ _ _ _ _ _ _ _ p.1.1.1 is-factor read.entry2.ensures.0 p.1.1.0.2.standing
     wrote.write-factor.ensures.0 wrote.write-factor.ensures.1
 
 take-apart-requires : tie.Need-take-apart-requires
@@ -64,7 +64,7 @@ same-length-5 : tie.Need-same-length-5
 same-length-5 c = search rules
 
 returns-2 : tie.Need-returns-2
-returns-2 c = further-apart _ _ c.before.before.before.before.take-apart.ensures
+returns-2 c = further_apart _ _ c.before.before.before.before.take-apart.ensures
 
 pub spell-once-spec : {M : Type 1} → statement M
 spell-once-spec =

@@ -4,7 +4,7 @@ use native.Mathlib.Omega.{arith}
 use Prim.Native.Nat.{◌+◌, ◌≤◌, ◌<◌}
 use lib.ListN.{length}
 use Rattle.trees.specs.Tree.{most_of_entry}
-use Rattle.witness.proofs.Stacked.{room-one, room-two, pushed-one, pushed-two, pushed_none}
+use Rattle.witness.proofs.Stacked.{room_one, room_two, pushed_one, pushed_two, pushed_none}
 use Rattle.witness.proofs.stacks.push_parts.Statement.{statement}
 use Rattle.witness.proofs.stacks.push_parts.Tie as tie
 
@@ -30,7 +30,7 @@ push-requires c κs =
     let one = told.p.given in
     let start = begun told.before.before in
     let a = start.args in
-    room-one a.xs.now a.ys.now a.height a.p start.pre one.0.0 one.0.1.0 one.1
+    room_one a.xs.now a.ys.now a.height a.p start.pre one.0.0 one.0.1.0 one.1
 
 enum-known-p-2 : tie.Need-enum-known-p-2
 enum-known-p-2 c = search rules
@@ -44,7 +44,7 @@ two-room c =
     let two = c.p2.given in
     let start = begun c.before.before in
     let a = start.args in
-    room-two a.xs.now a.ys.now a.height a.p start.pre two.0.0 two.0.1.0 two.0.1.1.0 two.0.1.1.1.0 two.1
+    room_two a.xs.now a.ys.now a.height a.p start.pre two.0.0 two.0.1.0 two.0.1.1.0 two.0.1.1.1.0 two.1
 
 push-requires-2 : tie.Need-push-requires-2
 push-requires-2 c κs = let room = two-room (told-two c) in (omega (arith, room.0), omega (arith, room.1), room.4, room.5)
@@ -73,7 +73,7 @@ returns c =
     let start = begun told.before.before in
     let a = start.args in
     let p = pushed.push in
-    pushed-one a.xs.now a.ys.now a.height a.p start.pre one.0.0 one.0.1.0 one.1
+    pushed_one a.xs.now a.ys.now a.height a.p start.pre one.0.0 one.0.1.0 one.1
     p.new.0 p.new.1.0 p.result p.ensures.0 p.ensures.1
 
 same-length-3 : tie.Need-same-length-3
@@ -92,7 +92,7 @@ returns-2 c =
     let a = start.args in
     let p = first.push3 in
     let q = second.push2 in
-    pushed-two a.xs.now a.ys.now a.height a.p start.pre two.0.0 two.0.1.0 two.0.1.1.0 two.0.1.1.1.0 two.1
+    pushed_two a.xs.now a.ys.now a.height a.p start.pre two.0.0 two.0.1.0 two.0.1.1.0 two.0.1.1.1.0 two.1
     q.last.0 q.last.1.0 q.result p.new.0 p.new.1.0 p.result q.ensures.0 q.ensures.1 p.ensures.0 p.ensures.1
 
 returns-3 : tie.Need-returns-3

@@ -5,8 +5,8 @@ use Prim.Native.Nat.{ℕ, ◌+◌, ◌-◌, ◌≤◌}
 use lib.ListN.{length}
 use Rattle.derivations.specs.Ways.{World, world}
 use Rattle.witness.specs.Sweeping.{ChoosesTo}
-use Rattle.witness.proofs.Places.{small-kept}
-use Rattle.witness.proofs.ChoiceSweeps.{chooses_none, chooses-then, chooses-stops}
+use Rattle.witness.proofs.Places.{small_kept}
+use Rattle.witness.proofs.ChoiceSweeps.{chooses_none, chooses_then, chooses_stops}
 use native.Mathlib.Omega.{arith}
 use borrow.Author.Rules.{rules}
 use Rattle.witness.proofs.sweeping.choose_all.Statement.{statement}
@@ -51,7 +51,7 @@ choose-weight-requires c κs =
     let p = start.pre in
     let s = p.1.1.0 in
     let v = at-loop.loop.invariant in (
-      small-kept (in_world start) p.0 v.1.keeps,
+      small_kept (in_world start) p.0 v.1.keeps,
       (
         (v.0.0, omega (arith, c.before.before.before.before.before.if1.true, p.1.0)),
         ((omega (arith, s.0, v.2), omega (arith, s.1, v.3), omega (arith, s.2, v.4), omega (arith, s.3, v.5)), v.1.choosing),
@@ -71,7 +71,7 @@ loop-again c =
     let v = at-loop.loop.inv in
     let k = at-weight.choose-weight.kept in (
       (omega arith, omega (arith, at-weight.before.before.before.before.before.before.if1.taken)),
-      chooses-then (in_world (entered at-loop)) at-weight.choose-weight.result v.1 at-weight.choose-weight.ensures c.if2.true,
+      chooses_then (in_world (entered at-loop)) at-weight.choose-weight.result v.1 at-weight.choose-weight.ensures c.if2.true,
       k.1.1.1.1.1.1.1.1.1.0 ∙ v.2,
       k.1.1.1.1.1.1.1.1.1.1.0 ∙ v.3,
       k.1.1.1.1.1.1.1.1.1.1.1.0 ∙ v.4,
@@ -97,7 +97,7 @@ returns : tie.Need-returns invariant-loop decreases-loop
 returns c =
     let at-weight = came c.before in
     let at-loop = turned at-weight in
-    chooses-stops (in_world (entered at-loop)) at-weight.choose-weight.result at-loop.loop.inv.1 at-weight.choose-weight.ensures _ 0 c.if2.false
+    chooses_stops (in_world (entered at-loop)) at-weight.choose-weight.result at-loop.loop.inv.1 at-weight.choose-weight.ensures _ 0 c.if2.false
     (omega (arith, at-weight.before.before.before.before.before.before.if1.taken))
 
 same-length-6 : tie.Need-same-length-6 invariant-loop decreases-loop

@@ -10,10 +10,10 @@ use Rattle.derivations.specs.Ways.{World, world, weight_in, highest}
 use Rattle.witness.specs.Choices.{marked, choice_at, Item, Small}
 use Rattle.witness.specs.Due.{DueAt, StandsAt}
 use Rattle.witness.specs.Sweeping.{swept, ChoosesTo}
-use Rattle.witness.proofs.Places.{stands-row, small-kept}
-use Rattle.witness.proofs.MarkSweeps.{place-sought}
-use Rattle.witness.proofs.ItemChoices.{choosing-settled, choosing-done, chooses-one}
-use Rattle.witness.proofs.ChoiceSweeps.{due-item, due-marked, choosing-steps, chooses_none, chooses-then, chooses-stops}
+use Rattle.witness.proofs.Places.{stands_row, small_kept}
+use Rattle.witness.proofs.MarkSweeps.{place_sought}
+use Rattle.witness.proofs.ItemChoices.{choosing_settled, choosing_done, chooses_one}
+use Rattle.witness.proofs.ChoiceSweeps.{due_item, due_marked, choosing_steps, chooses_none, chooses_then, chooses_stops}
 use native.Mathlib.Omega.{arith}
 use borrow.Author.Rules.{rules}
 use Rattle.witness.proofs.sweeping.choose_block.Statement.{statement}
@@ -58,7 +58,7 @@ in_world c =
     world a.count a.letters.now a.rests.now a.children-r.now a.children-s.now a.wholes.now a.target.now a.counts.now
 
 small : (c : tie.At-loop invariant-loop decreases-loop) → Small (in_world c) c.loop.choices
-small c = small-kept (in_world c) (entered c).requires.0 c.loop.invariant.2.keeps
+small c = small_kept (in_world c) (entered c).requires.0 c.loop.invariant.2.keeps
 
 inside : (c : tie.In-loop invariant-loop decreases-loop) → c.before.loop.p < swept (in_world c.before)
 inside c = omega (arith, c.loop-test.true, (entered c.before).pre.1.1.0.1)
@@ -68,7 +68,7 @@ few-places c =
     let at-loop = c.before in
     let v = at-loop.loop.invariant.1 in
     let before-end = inside c in
-    (place-sought (in_world at-loop) (small at-loop) at-loop.loop.x at-loop.loop.p v.0 v.1 (omega arith)).1.1
+    (place_sought (in_world at-loop) (small at-loop) at-loop.loop.x at-loop.loop.p v.0 v.1 (omega arith)).1.1
 
 -- what is due at a place, the item that stands there, and what it weighs
 module _ (c : tie.After-item-at invariant-loop decreases-loop) where
@@ -93,10 +93,10 @@ module _ (c : tie.After-item-at invariant-loop decreases-loop) where
   weighs : Item (in_world at-loop) x y × (weight_in (in_world at-loop) x y ≡ k)
   weighs =
       let some = (entered at-loop).pre.1.1.1.0.0 in
-      due-item (in_world at-loop) at-loop.loop.choices k at-loop.loop.p x y stands due (small at-loop) some (inside (tested c).before.before.before)
+      due_item (in_world at-loop) at-loop.loop.choices k at-loop.loop.p x y stands due (small at-loop) some (inside (tested c).before.before.before)
 
   is-marked : choice_at (entered at-loop).args.count at-loop.loop.choices x y ≡ marked
-  is-marked = due-marked (in_world at-loop) at-loop.loop.choices k at-loop.loop.p x y stands due
+  is-marked = due_marked (in_world at-loop) at-loop.loop.choices k at-loop.loop.p x y stands due
 
 loop-holds : tie.Need-loop-init invariant-loop decreases-loop
 loop-holds c =
@@ -134,7 +134,7 @@ item-at-requires c κs =
     let at-loop = looped c.before in
     let v = at-loop.loop.inv.1 in
     let before-end = inside c.before.before.before.before in
-    place-sought (in_world at-loop) (small at-loop) at-loop.loop.x at-loop.loop.p v.0 v.1 (omega arith)
+    place_sought (in_world at-loop) (small at-loop) at-loop.loop.x at-loop.loop.p v.0 v.1 (omega arith)
 
 choose-requires : tie.Need-choose-requires invariant-loop decreases-loop
 choose-requires c κs =
@@ -153,8 +153,8 @@ choose-requires c κs =
           (
             omega (arith, is, p.0.1),
             (
-              choosing-settled w v.2.choosing,
-              choosing-done w (k at_item) at-loop.loop.p (x at_item) (y at_item) is (stands at_item).is v.2.choosing item (is-marked at_item),
+              choosing_settled w v.2.choosing,
+              choosing_done w (k at_item) at-loop.loop.p (x at_item) (y at_item) is (stands at_item).is v.2.choosing item (is-marked at_item),
             ),
           ),
         ),
@@ -173,7 +173,7 @@ chosen c =
     let at_item = turned c in
     let at-loop = looped (tested at_item) in
     let (item, is) = weighs at_item in
-    chooses-one (in_world at-loop) at-loop.loop.choices (k at_item) at-loop.loop.p (x at_item) (y at_item) c.choose.result (small at-loop).room
+    chooses_one (in_world at-loop) at-loop.loop.choices (k at_item) at-loop.loop.p (x at_item) (y at_item) c.choose.result (small at-loop).room
     item is (stands at_item).is (is-marked at_item) c.choose.ensures at-loop.loop.inv.2.choosing
 
 add-p : tie.Need-overflow-add-p invariant-loop decreases-loop
@@ -192,8 +192,8 @@ loop-again c =
     let before-end = inside (tested at_item).before.before.before in
     let k = at-choose.choose.kept in (
       (omega (arith, v.0.0), omega (arith, (tested at_item).before.before.before.loop-test.taken)),
-      ((stands at_item).some, stands-row (in_world at-loop) at-loop.loop.p (x at_item) (y at_item) (omega arith) (stands at_item)),
-      chooses-then (in_world at-loop) at-choose.choose.result v.2 (chosen at-choose) c.if2.true,
+      ((stands at_item).some, stands_row (in_world at-loop) at-loop.loop.p (x at_item) (y at_item) (omega arith) (stands at_item)),
+      chooses_then (in_world at-loop) at-choose.choose.result v.2 (chosen at-choose) c.if2.true,
       k.1.1.1.1.1.1.1.1.1.0 ∙ v.3,
       k.1.1.1.1.1.1.1.1.1.1.0 ∙ v.4,
       k.1.1.1.1.1.1.1.1.1.1.1.0 ∙ v.5,
@@ -220,7 +220,7 @@ returns c =
     let at-choose = came c.before in
     let at-loop = at_turn at-choose in
     let a = (entered at-loop).args in
-    chooses-stops (in_world at-loop) at-choose.choose.result at-loop.loop.inv.2 (chosen at-choose) a.k.0 a.end c.if2.false (omega arith)
+    chooses_stops (in_world at-loop) at-choose.choose.result at-loop.loop.inv.2 (chosen at-choose) a.k.0 a.end c.if2.false (omega arith)
 
 add-p-2 : tie.Need-overflow-add-p-2 invariant-loop decreases-loop
 add-p-2 c =
@@ -236,7 +236,7 @@ loop-again-2 c =
     let none = told_not c.before.is-due.result c.if1.false c.before.is-due.ensures in (
       (omega (arith, v.0.0), omega (arith, c.before.before.before.before.loop-test.true)),
       v.1,
-      record { keeps = v.2.keeps; choosing = choosing-steps (in_world at-loop) (entered at-loop).args.k.0 at-loop.loop.p none v.2.choosing },
+      record { keeps = v.2.keeps; choosing = choosing_steps (in_world at-loop) (entered at-loop).args.k.0 at-loop.loop.p none v.2.choosing },
       v.3,
       v.4,
       v.5,

@@ -7,10 +7,10 @@ use Rattle.refusals.proofs.Telling.{told_not}
 use Rattle.derivations.specs.Ways.{World, world, highest}
 use Rattle.witness.specs.Choices.{Small}
 use Rattle.witness.specs.Sweeping.{swept, Choosing, ChoosesTo}
-use Rattle.witness.proofs.Places.{stands-row, small-kept}
-use Rattle.witness.proofs.MarkSweeps.{place-sought}
-use Rattle.witness.proofs.ItemChoices.{choosing-passes}
-use Rattle.witness.proofs.ChoiceSweeps.{chooses_none, chooses-then, chooses-stops, weight-leaves}
+use Rattle.witness.proofs.Places.{stands_row, small_kept}
+use Rattle.witness.proofs.MarkSweeps.{place_sought}
+use Rattle.witness.proofs.ItemChoices.{choosing_passes}
+use Rattle.witness.proofs.ChoiceSweeps.{chooses_none, chooses_then, chooses_stops, weight_leaves}
 use native.Mathlib.Omega.{arith}
 use Rattle.witness.proofs.sweeping.choose_weight.Statement.{statement}
 use Rattle.witness.proofs.sweeping.choose_weight.Tie as tie
@@ -51,7 +51,7 @@ in_world c =
     world a.count a.letters.now a.rests.now a.children-r.now a.children-s.now a.wholes.now a.target.now a.counts.now
 
 small : (c : tie.At-loop invariant-loop decreases-loop) → Small (in_world (begun c.before)) c.loop.choices
-small c = small-kept (in_world (begun c.before)) (begun c.before).pre.0 c.loop.invariant.2.keeps
+small c = small_kept (in_world (begun c.before)) (begun c.before).pre.0 c.loop.invariant.2.keeps
 
 swept-requires : tie.Need-swept-requires invariant-loop decreases-loop
 swept-requires c κs = let p = c.before.before.before.before.before.before.before.before.before.before.before.before.requires.0 in (p.few, p.short)
@@ -77,7 +77,7 @@ item-at-requires c κs =
     let at-loop = looped c.before in
     let w = in_world (begun at-loop.before) in
     let v = at-loop.loop.inv in
-    place-sought w (small at-loop) at-loop.loop.x at-loop.loop.from v.1.0 v.1.1 (omega (arith, v.0.0, v.0.1))
+    place_sought w (small at-loop) at-loop.loop.x at-loop.loop.from v.1.0 v.1.1 (omega (arith, v.0.0, v.0.1))
 
 choose-block-requires : tie.Need-choose-block-requires invariant-loop decreases-loop
 choose-block-requires c κs =
@@ -94,7 +94,7 @@ choose-block-requires c κs =
       (
         (
           stands.some,
-          stands-row (in_world start) at-loop.loop.from at_item.item-at.result.first at_item.item-at.result.second (omega arith) stands,
+          stands_row (in_world start) at-loop.loop.from at_item.item-at.result.first at_item.item-at.result.second (omega arith) stands,
         ),
         (
           (omega arith, omega arith),
@@ -124,8 +124,8 @@ loop-again c =
     let stands = at_item.item-at.ensures in
     let k = at_block.choose-block.kept in (
       ((turned at_block).before.before.block-after.ensures.1, last),
-      (stands.some, stands-row w at-loop.loop.from at_item.item-at.result.first at_item.item-at.result.second (omega arith) stands),
-      chooses-then w at_block.choose-block.result v.2 at_block.choose-block.ensures c.if2.true,
+      (stands.some, stands_row w at-loop.loop.from at_item.item-at.result.first at_item.item-at.result.second (omega arith) stands),
+      chooses_then w at_block.choose-block.result v.2 at_block.choose-block.ensures c.if2.true,
       k.1.1.1.1.1.1.1.1.1.0 ∙ v.3,
       k.1.1.1.1.1.1.1.1.1.1.0 ∙ v.4,
       k.1.1.1.1.1.1.1.1.1.1.1.0 ∙ v.5,
@@ -152,7 +152,7 @@ returns c =
     let at_block = came c.before in
     let at-loop = at_turn at_block in
     let w = in_world (begun at-loop.before) in
-    chooses-stops w at_block.choose-block.result at-loop.loop.inv.2 at_block.choose-block.ensures _ 0 c.if2.false
+    chooses_stops w at_block.choose-block.result at-loop.loop.inv.2 at_block.choose-block.ensures _ 0 c.if2.false
     (omega arith)
 
 loop-less-2 : tie.Need-loop-smaller-2 invariant-loop decreases-loop
@@ -167,7 +167,7 @@ loop-again-2 c =
     let none = told_not c.before.block-due.result c.if1.false c.before.block-due.ensures in (
       (c.before.before.before.block-after.ensures.1, v.0.1),
       v.1,
-      record { keeps = v.2.keeps; choosing = choosing-passes (in_world start) start.args.k.0 at-loop.loop.from stop none v.2.choosing },
+      record { keeps = v.2.keeps; choosing = choosing_passes (in_world start) start.args.k.0 at-loop.loop.from stop none v.2.choosing },
       v.3,
       v.4,
       v.5,
@@ -199,7 +199,7 @@ returns-2 c =
     let all : at-loop.loop.from ≡ swept w = omega (arith, c.loop-test.false, v.0.0, v.0.1) in
     record {
       keeps = v.2.keeps;
-      choosing = weight-leaves w k (subst (λ (m : ℕ). Choosing w k m at-loop.loop.choices) all v.2.choosing);
+      choosing = weight_leaves w k (subst (λ (m : ℕ). Choosing w k m at-loop.loop.choices) all v.2.choosing);
     }
 
 pub choose-weight-spec : {M : Type 1} → statement M

@@ -3,8 +3,8 @@ use mathlib.Core.Path.{◌≡◌, subst}
 use Prim.Native.Nat.{ℕ, ◌+◌, ◌-◌}
 use Rattle.derivations.specs.Ways.{World, world}
 use Rattle.witness.specs.Sweeping.{MarksTo}
-use Rattle.witness.proofs.Places.{small-kept}
-use Rattle.witness.proofs.MarkSweeps.{marks-none, marks_then}
+use Rattle.witness.proofs.Places.{small_kept}
+use Rattle.witness.proofs.MarkSweeps.{marks_none, marks_then}
 use native.Mathlib.Omega.{arith}
 use borrow.Author.Rules.{rules}
 use Rattle.witness.proofs.sweeping.mark_all.Statement.{statement}
@@ -29,14 +29,14 @@ in_world c =
 loop-holds : tie.Need-loop-init invariant-loop decreases-loop
 loop-holds c =
     let start = c.before.before.before.before.before.before.before.before in
-    marks-none (in_world start) start.requires.1
+    marks_none (in_world start) start.requires.1
 
 mark-weight-requires : tie.Need-mark-weight-requires invariant-loop decreases-loop
 mark-weight-requires c κs =
     let at-loop = c.before.before in
     let start = entered at-loop in
     let v = at-loop.loop.invariant in
-    (small-kept (in_world start) start.pre.0 v.keeps, (c.before.loop-test.true, v.marking))
+    (small_kept (in_world start) start.pre.0 v.keeps, (c.before.loop-test.true, v.marking))
 
 sub-k : tie.Need-overflow-sub-k invariant-loop decreases-loop
 sub-k c = search rules

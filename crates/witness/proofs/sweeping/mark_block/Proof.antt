@@ -5,8 +5,8 @@ use Rattle.refusals.proofs.Telling.{told, told_not}
 use Rattle.derivations.specs.Ways.{World, world, weight_in, highest}
 use Rattle.witness.specs.Choices.{cells, Item, Small}
 use Rattle.witness.specs.Sweeping.{MarksTo}
-use Rattle.witness.proofs.Places.{stands-row, stands-item, small-kept}
-use Rattle.witness.proofs.MarkSweeps.{place-sought, marks-none, passes-one, marks-on}
+use Rattle.witness.proofs.Places.{stands_row, stands_item, small_kept}
+use Rattle.witness.proofs.MarkSweeps.{place_sought, marks_none, passes_one, marks_on}
 use native.Mathlib.Omega.{arith}
 use borrow.Author.Rules.{rules}
 use Rattle.witness.proofs.sweeping.mark_block.Statement.{statement}
@@ -34,7 +34,7 @@ abbrev looked : tie.After-is-due invariant-loop decreases-loop → tie.At-loop i
 looked c = c.before.before.before.before
 
 small : (c : tie.At-loop invariant-loop decreases-loop) → Small (in_world (entered c)) c.loop.choices
-small c = small-kept (in_world (entered c)) (entered c).requires.0 c.loop.invariant.4.keeps
+small c = small_kept (in_world (entered c)) (entered c).requires.0 c.loop.invariant.4.keeps
 
 -- the place that is looked at is one of the cells
 inside : (c : tie.In-loop invariant-loop decreases-loop) → c.before.loop.p - 1 < cells (in_world (entered c.before))
@@ -50,14 +50,14 @@ item c =
     let at-loop = looked at-due in
     let start = entered at-loop in
     let due = told at-due.is-due.result c.before.if1.true at-due.is-due.ensures in
-    stands-item (in_world start) start.args.k.0 (at-loop.loop.p - 1) c.item-at.result.first c.item-at.result.second (small at-loop)
+    stands_item (in_world start) start.args.k.0 (at-loop.loop.p - 1) c.item-at.result.first c.item-at.result.second (small at-loop)
     start.pre.1.1.1.0 (inside at-due.before.before.before) c.item-at.ensures due.1
 
 loop-holds : tie.Need-loop-init invariant-loop decreases-loop
 loop-holds c =
     let start = c.before.before.before.before.before.before.before.before in
     let p = start.requires in
-    (p.1.1.0.0, omega arith, p.1.0.0, p.1.0.1, marks-none (in_world start) p.1.1.1.1)
+    (p.1.1.0.0, omega arith, p.1.0.0, p.1.0.1, marks_none (in_world start) p.1.1.1.1)
 
 sub-p : tie.Need-overflow-sub-p invariant-loop decreases-loop
 sub-p c = search rules
@@ -84,7 +84,7 @@ item-at-requires c κs =
     let at-loop = looked c.before in
     let start = entered at-loop in
     let v = at-loop.loop.inv in
-    place-sought (in_world start) start.pre.0 at-loop.loop.x (at-loop.loop.p - 1) v.2 v.3 (omega (arith, v.1, start.pre.1.1.0.1))
+    place_sought (in_world start) start.pre.0 at-loop.loop.x (at-loop.loop.p - 1) v.2 v.3 (omega (arith, v.1, start.pre.1.1.0.1))
 
 mark-requires : tie.Need-mark-requires invariant-loop decreases-loop
 mark-requires c κs = let at_item = c.before in (small (looked at_item.before.before), (item at_item).0)
@@ -109,8 +109,8 @@ loop-again c =
       omega (arith, before),
       omega (arith, v.1),
       stands.some,
-      stands-row w (p - 1) x y (inside at-due.before.before.before) stands,
-      marks-on w at-loop.loop.choices start.args.k.0 x y (small at-loop).room (item at_item).0 (item at_item).1 at_mark.mark.ensures p
+      stands_row w (p - 1) x y (inside at-due.before.before.before) stands,
+      marks_on w at-loop.loop.choices start.args.k.0 x y (small at-loop).room (item at_item).0 (item at_item).1 at_mark.mark.ensures p
           (omega (arith, before)) stands.is v.4,
     )
 
@@ -128,7 +128,7 @@ loop-again-2 c =
       omega (arith, v.1),
       v.2,
       v.3,
-      passes-one (in_world start) start.args.k.0 at-loop.loop.p (omega (arith, before))
+      passes_one (in_world start) start.args.k.0 at-loop.loop.p (omega (arith, before))
           (told_not at-due.is-due.result c.if1.false at-due.is-due.ensures) v.4,
     )
 

@@ -5,8 +5,8 @@ use Rattle.refusals.proofs.Telling.{told_not}
 use Rattle.derivations.specs.Ways.{World, world, highest}
 use Rattle.witness.specs.Choices.{Small}
 use Rattle.witness.specs.Sweeping.{swept, Marking, MarksTo}
-use Rattle.witness.proofs.Places.{stands-row, small-kept}
-use Rattle.witness.proofs.MarkSweeps.{place-sought, marks-none, marks_then, passes_on, weight-begins}
+use Rattle.witness.proofs.Places.{stands_row, small_kept}
+use Rattle.witness.proofs.MarkSweeps.{place_sought, marks_none, marks_then, passes_on, weight_begins}
 use native.Mathlib.Omega.{arith}
 use borrow.Author.Rules.{rules}
 use Rattle.witness.proofs.sweeping.mark_weight.Statement.{statement}
@@ -35,7 +35,7 @@ abbrev looked : tie.After-block-due invariant-loop decreases-loop → tie.At-loo
 looked c = c.before.before.before.before
 
 small : (c : tie.At-loop invariant-loop decreases-loop) → Small (in_world (entered c)) c.loop.choices
-small c = small-kept (in_world (entered c)) (entered c).requires.0 c.loop.invariant.3.keeps
+small c = small_kept (in_world (entered c)) (entered c).requires.0 c.loop.invariant.3.keeps
 
 -- the block has a place
 earlier : (c : tie.After-block-before invariant-loop decreases-loop) → c.block-before.result < c.before.before.loop.end
@@ -46,7 +46,7 @@ row : (c : tie.After-item-at invariant-loop decreases-loop) → c.item-at.result
 row c =
     let at_before = c.before.before.before.before in
     let at-loop = at_before.before.before in
-    stands-row (in_world (entered at-loop)) at_before.block-before.result c.item-at.result.first c.item-at.result.second
+    stands_row (in_world (entered at-loop)) at_before.block-before.result c.item-at.result.first c.item-at.result.second
     (omega (arith, earlier at_before, at-loop.loop.invariant.2)) c.item-at.ensures
 
 add-x : tie.Need-overflow-add-x invariant-loop decreases-loop
@@ -60,11 +60,11 @@ loop-holds c =
     let start = c.before.before.before.before.before.before.before.before.before in
     let w = in_world start in
     let a = start.args in
-    let marking = weight-begins w a.k.0 start.requires.1.1 in (
+    let marking = weight_begins w a.k.0 start.requires.1.1 in (
       omega arith,
       omega arith,
       omega (arith, c.swept.ensures),
-      marks-none w (subst (λ (m : ℕ). Marking w a.k.0 m a.choices.now) (sym c.swept.ensures) marking),
+      marks_none w (subst (λ (m : ℕ). Marking w a.k.0 m a.choices.now) (sym c.swept.ensures) marking),
     )
 
 block-before-requires : tie.Need-block-before-requires invariant-loop decreases-loop
@@ -83,7 +83,7 @@ item-at-requires c κs =
     let at-loop = at_before.before.before in
     let start = entered at-loop in
     let v = at-loop.loop.invariant in
-    place-sought (in_world start) start.pre.0 at-loop.loop.x at_before.block-before.result v.0 v.1 (omega (arith, v.2, earlier at_before))
+    place_sought (in_world start) start.pre.0 at-loop.loop.x at_before.block-before.result v.0 v.1 (omega (arith, v.2, earlier at_before))
 
 mark-block-requires : tie.Need-mark-block-requires invariant-loop decreases-loop
 mark-block-requires c κs =

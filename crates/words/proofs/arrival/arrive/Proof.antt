@@ -4,7 +4,7 @@ use borrow.Author.Rules.{rules}
 use mathlib.Core.Path.{◌≡◌}
 use mathlib.Core.List.{[]}
 use Prim.Native.Nat.{◌≤◌}
-use Rattle.words.proofs.Stack.{r-cancels, r-stays, s-doubles, s-cancels, s-begins, ending_3, height_r, height_ss}
+use Rattle.words.proofs.Stack.{r_cancels, r_stays, s_doubles, s_cancels, s_begins, ending_3, height_r, height_ss}
 use Rattle.words.proofs.arrival.arrive.Statement.{statement}
 use Rattle.words.proofs.arrival.arrive.Tie as tie
 
@@ -62,49 +62,49 @@ same_length : tie.Need-same-length
 same_length c = search rules
 
 returns : tie.Need-returns
-returns c = r-stays _ _ _ _ _ c.before.before.before.before.before.if1.true (λ one. omega (arith, c.before.before.before.before.match.keys1)) (omega arith) c.before.before.push.ensures
+returns c = r_stays _ _ _ _ _ c.before.before.before.before.before.if1.true (λ one. omega (arith, c.before.before.before.before.match.keys1)) (omega arith) c.before.before.push.ensures
 
 same-length-2 : tie.Need-same-length-2
 same-length-2 c = search rules
 
 returns-2 : tie.Need-returns-2
-returns-2 c = r-cancels _ _ _ [] _ c.before.before.before.before.before.if1.true c.before.before.before.before.match.keys2 (meets-r c.before.before.before) c.pop-to.ensures
+returns-2 c = r_cancels _ _ _ [] _ c.before.before.before.before.before.if1.true c.before.before.before.before.match.keys2 (meets-r c.before.before.before) c.pop-to.ensures
 
 same-length-3 : tie.Need-same-length-3
 same-length-3 c = search rules
 
 returns-3 : tie.Need-returns-3
-returns-3 c = r-stays _ _ _ _ _ c.before.before.before.before.before.if1.true (λ one. omega (arith, c.before.before.before.before.match.keys3)) (omega arith) c.before.before.push2.ensures
+returns-3 c = r_stays _ _ _ _ _ c.before.before.before.before.before.if1.true (λ one. omega (arith, c.before.before.before.before.match.keys3)) (omega arith) c.before.before.push2.ensures
 
 same-length-4 : tie.Need-same-length-4
 same-length-4 c = search rules
 
 returns-4 : tie.Need-returns-4
-returns-4 c = r-stays _ _ _ _ _ c.before.before.before.before.before.if1.true c.before.before.before.before.match.rest.0.1 (omega arith) c.before.before.push3.ensures
+returns-4 c = r_stays _ _ _ _ _ c.before.before.before.before.before.if1.true c.before.before.before.before.match.rest.0.1 (omega arith) c.before.before.push3.ensures
 
 same-length-5 : tie.Need-same-length-5
 same-length-5 c = search rules
 
 returns-5 : tie.Need-returns-5
-returns-5 c = s-begins _ _ _ _ _ c.before.before.before.before.before.if1.false (omega (arith, c.before.before.before.before.match2.keys1)) (omega arith) c.before.before.push4.ensures
+returns-5 c = s_begins _ _ _ _ _ c.before.before.before.before.before.if1.false (omega (arith, c.before.before.before.before.match2.keys1)) (omega arith) c.before.before.push4.ensures
 
 same-length-6 : tie.Need-same-length-6
 same-length-6 c = search rules
 
 returns-6 : tie.Need-returns-6
-returns-6 c = s-begins _ _ _ _ _ c.before.before.before.before.before.if1.false (omega (arith, c.before.before.before.before.match2.keys2)) (omega arith) c.before.before.push5.ensures
+returns-6 c = s_begins _ _ _ _ _ c.before.before.before.before.before.if1.false (omega (arith, c.before.before.before.before.match2.keys2)) (omega arith) c.before.before.push5.ensures
 
 same-length-7 : tie.Need-same-length-7
 same-length-7 c = search rules
 
 returns-7 : tie.Need-returns-7
-returns-7 c = s-doubles _ _ _ _ _ c.before.before.before.before.before.if1.false c.before.before.before.before.match2.keys3 (omega arith) c.before.before.push6.ensures
+returns-7 c = s_doubles _ _ _ _ _ c.before.before.before.before.before.if1.false c.before.before.before.before.match2.keys3 (omega arith) c.before.before.push6.ensures
 
 same-length-8 : tie.Need-same-length-8
 same-length-8 c = search rules
 
 returns-8 : tie.Need-returns-8
-returns-8 c = s-cancels _ _ _ [] _ c.before.before.before.before.before.if1.false (ends-in-ss c.before.before.before) (meets-ss c.before.before.before) c.pop-to2.ensures
+returns-8 c = s_cancels _ _ _ [] _ c.before.before.before.before.before.if1.false (ends-in-ss c.before.before.before) (meets-ss c.before.before.before) c.pop-to2.ensures
 
 pub arrive-spec : {M : Type 1} → statement M
 arrive-spec =

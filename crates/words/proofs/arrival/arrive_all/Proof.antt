@@ -6,7 +6,7 @@ use Prim.Native.Nat.{◌+◌, ◌-◌, ◌≤◌}
 use lib.ListN.{length, drop, get_or, drop_of_length-le, length-map}
 use Rattle.words.specs.Bytes.{letter, word as word_of}
 use Rattle.words.specs.Arrival.{came}
-use Rattle.words.proofs.Arriving.{Arriving, arriving_some, arriving_begins, arriving_more, arriving-ends, all-came, all-rs-gone, rest_of_word}
+use Rattle.words.proofs.Arriving.{Arriving, arriving_some, arriving_begins, arriving_more, arriving_ends, all_came, all_rs_gone, rest_of_word}
 use borrow.Author.Rules.{rules}
 use native.Mathlib.Omega.{arith}
 use Rattle.words.proofs.arrival.arrive_all.Statement.{statement}
@@ -57,7 +57,7 @@ returns c =
     let w = c.before.before.before.before.args.word.now in
     let none = ap word_of (drop_of_length-le w c.loop-test.false) in
     let all = c.before.loop.invariant.3 in
-    (arriving-ends none all, (all-came none all ∙ length-map w letter, all-rs-gone none all))
+    (arriving_ends none all, (all_came none all ∙ length-map w letter, all_rs_gone none all))
 
 pub arrive-all-spec : {M : Type 1} → statement M
 arrive-all-spec =

@@ -9,7 +9,7 @@ use Rattle.words.specs.Word.{inverse, inverse_letter}
 use Rattle.words.specs.Bytes.{letter, word as word_of}
 use Rattle.words.specs.Arrival.{came}
 use Rattle.words.proofs.Inverse.{length_inverse_letter}
-use Rattle.words.proofs.Arriving.{Arriving, arriving_some, arriving_begins, arriving_more, arriving-ends, rest_of_inverse}
+use Rattle.words.proofs.Arriving.{Arriving, arriving_some, arriving_begins, arriving_more, arriving_ends, rest_of_inverse}
 use borrow.Author.Rules.{rules}
 use native.Mathlib.Omega.{arith}
 use Rattle.words.proofs.arrival.arrive_inverse.Statement.{statement}
@@ -62,7 +62,7 @@ returns c =
     let l = c.before.loop in
     let w = c.before.before.before.before.args.word.now in
     let none : l.i ≡ 0 = omega arith in
-    (arriving-ends (ap (λ (j : ℕ). inverse (word_of (take j w))) none) l.invariant.3, omega arith)
+    (arriving_ends (ap (λ (j : ℕ). inverse (word_of (take j w))) none) l.invariant.3, omega arith)
 
 pub arrive-inverse-spec : {M : Type 1} → statement M
 arrive-inverse-spec =

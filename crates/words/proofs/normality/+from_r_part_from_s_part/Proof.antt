@@ -6,7 +6,7 @@ use Rattle.words.specs.Word.{S, Word}
 use Rattle.words.specs.Bytes.{word as word_of}
 use Rattle.refusals.specs.Telling.{Tells}
 use Rattle.words.specs.Parts.{FromRPart}
-use Rattle.words.proofs.Parts.{rest_r, rest_s, rest_none, nothing_from_r, nothing_from_s, s_alone, not_from_r, not_from_s, r-then, s-then-r, ss-then}
+use Rattle.words.proofs.Parts.{rest_r, rest_s, rest_none, nothing_from_r, nothing_from_s, s_alone, not_from_r, not_from_s, r_then, s_then_r, ss_then}
 use borrow.Author.Rules.{rules}
 use native.Mathlib.Omega.{arith}
 use Prim.Native.Nat.{ℕ, ◌+◌, ◌-◌, ◌<◌}
@@ -74,7 +74,7 @@ from-r-part-returns-2 : (t : ℕ) → from-r-part-lts.Need-returns-2 (
 from-r-part-returns-2 t c =
     let w = c.before.before.before.before.before.args.word.now in
     let at = c.before.before.before.before.before.args.at in
-    r-then c.from-s-part.result (word_of (drop (at + 1) w)) (rest_r w at (omega arith) c.before.if2.true) c.from-s-part.ensures
+    r_then c.from-s-part.result (word_of (drop (at + 1) w)) (rest_r w at (omega arith) c.before.if2.true) c.from-s-part.ensures
 
 from-r-part-returns-3 : (t : ℕ) → from-r-part-lts.Need-returns-3 (
   from-s-part-below t,
@@ -153,7 +153,7 @@ from-s-part-returns-4 t c =
     let w = c.before.before.before.before.before.before.before.before.args.word.now in
     let at = c.before.before.before.before.before.before.before.before.args.at in
     let next = rest_r w (at + 1) (omega arith) c.before.if4.true in
-    s-then-r c.from-r-part.result (word_of (drop (at + 1 + 1) w)) (rest_s w at (omega arith) c.before.before.before.before.if2.false ∙ ap (λ (l : Word). S ∷ l) next) (subst (λ (l : Word). Tells c.from-r-part.result (FromRPart l)) next c.from-r-part.ensures)
+    s_then_r c.from-r-part.result (word_of (drop (at + 1 + 1) w)) (rest_s w at (omega arith) c.before.before.before.before.if2.false ∙ ap (λ (l : Word). S ∷ l) next) (subst (λ (l : Word). Tells c.from-r-part.result (FromRPart l)) next c.from-r-part.ensures)
 
 from-s-part-add-from-r-part-2 : (t : ℕ) → from-s-part-lts.Need-overflow-add-from-r-part-2 (
   from-r-part-below t,
@@ -175,7 +175,7 @@ from-s-part-returns-5 t c =
     let w = c.before.before.before.before.before.before.before.before.args.word.now in
     let at = c.before.before.before.before.before.before.before.before.args.at in
     let two : at + 1 + 1 ≡ at + 2 = omega arith in
-    ss-then c.from-r-part2.result (word_of (drop (at + 2) w)) (rest_s w at (omega arith) c.before.before.before.before.if2.false ∙ ap (λ (l : Word). S ∷ l) (rest_s w (at + 1) (omega arith) c.before.if4.false) ∙ ap (λ (n : ℕ). S ∷ S ∷ word_of (drop n w)) two) c.from-r-part2.ensures
+    ss_then c.from-r-part2.result (word_of (drop (at + 2) w)) (rest_s w at (omega arith) c.before.before.before.before.if2.false ∙ ap (λ (l : Word). S ∷ l) (rest_s w (at + 1) (omega arith) c.before.if4.false) ∙ ap (λ (n : ℕ). S ∷ S ∷ word_of (drop n w)) two) c.from-r-part2.ensures
 
 pub +from-r-part-from-s-part-spec : {M : Type 1} → statement M
 +from-r-part-from-s-part-spec = close μ-from-r-part μ-from-s-part (λ t. from-r-part-lts.spec (

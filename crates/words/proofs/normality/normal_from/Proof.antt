@@ -2,7 +2,7 @@
 use Prim.Native.Nat.{◌+◌}
 use lib.ListN.{drop}
 use Rattle.words.specs.Bytes.{word as word_of}
-use Rattle.words.proofs.Parts.{rest_r, rest_s, rest_none, nothing_parts, parts-by-r, parts-by-s}
+use Rattle.words.proofs.Parts.{rest_r, rest_s, rest_none, nothing_parts, parts_by_r, parts_by_s}
 use native.Mathlib.Omega.{arith}
 use borrow.Author.Rules.{rules}
 use Rattle.words.proofs.normality.normal_from.Statement.{statement}
@@ -24,7 +24,7 @@ returns-2 : tie.Need-returns-2
 returns-2 c =
     let w = c.before.before.before.before.before.args.word.now in
     let at = c.before.before.before.before.before.args.at in
-    parts-by-r c.from-r-part.result (word_of (drop (at + 1) w)) (rest_r w at (omega arith) c.before.if2.true) c.from-r-part.ensures
+    parts_by_r c.from-r-part.result (word_of (drop (at + 1) w)) (rest_r w at (omega arith) c.before.if2.true) c.from-r-part.ensures
 
 from-s-part-requires : tie.Need-from-s-part-requires
 from-s-part-requires c κs = search rules
@@ -33,7 +33,7 @@ returns-3 : tie.Need-returns-3
 returns-3 c =
     let w = c.before.before.before.before.before.args.word.now in
     let at = c.before.before.before.before.before.args.at in
-    parts-by-s c.from-s-part.result (word_of (drop (at + 1) w)) (rest_s w at (omega arith) c.before.if2.false) c.from-s-part.ensures
+    parts_by_s c.from-s-part.result (word_of (drop (at + 1) w)) (rest_s w at (omega arith) c.before.if2.false) c.from-s-part.ensures
 
 pub normal-from-spec : {M : Type 1} → statement M
 normal-from-spec =
