@@ -1,5 +1,6 @@
 // The limits that document 01's questions set, and the sizes of local arrays that follow from them. Each limit stands once here, for the code, and once
 // in specs/Limits.antt, for the definitions. A limit of a length that is told in 16 bits has 16 bits; its name with ROOM is the same as an array's size.
+#![tactic(auto)]
 
 // Question 1: the bytes of a card.
 pub const CARD_BYTES: usize = 8326;

@@ -1,12 +1,14 @@
 // Why a call refuses, and the questions at the door that concern words. `specs/Questions.antt` has each question; a call puts its own in rising
 // order.
+#![tactic(auto)]
+
 ghost use Rattle.std.specs.Prelude.{true, ◌≡◌, ◌≤◌, length};
 ghost use Rattle.refusals.specs.Telling.{Tells};
 ghost use Rattle.refusals.specs.Questions.{is_letter, first_other, of_letters, of_word, number as number_of, place as place_of};
 
 // Why a call refuses: the first question answered no, with its place where it names one. `number` and `place` of specs/ give
 // document 01's numbers.
-#[derive(Drop)]
+#[derive(Clone, Copy)]
 pub enum Refusal {
     CardTooLong,
     BitMapWrong,
@@ -27,7 +29,7 @@ pub enum Refusal {
 }
 
 // What a question says of a call's inputs.
-#[derive(Drop)]
+#[derive(Clone, Copy)]
 pub enum Asked {
     Passed,
     Refused(Refusal),

@@ -1,9 +1,9 @@
 -- The account of a reduction, for words of any length.
---     accounts-unique   no other two numbers satisfy the two equations
---     erases-accounts   they hold of every way to erase one pair or triple after the other
---     nf-erased         pairs and triples can be erased until the normal form is left
---     nf-accounts       so there are two such numbers for a word and its normal form
---     erased-alike      every way to erase that ends in the normal form erases as many of each
+--     accounts_unique   no other two numbers satisfy the two equations
+--     erases_accounts   they hold of every way to erase one pair or triple after the other
+--     nf_erased         pairs and triples can be erased until the normal form is left
+--     nf_accounts       so there are two such numbers for a word and its normal form
+--     erased_alike      every way to erase that ends in the normal form erases as many of each
 -- Assumes nothing.
 use mathlib.Core.Path.{◌≡◌, refl, sym, ap, subst, ◌∙◌}
 use mathlib.Core.List.{[], ◌∷◌, ◌++◌, reverse, append-nil, reverse-cons}

@@ -1,10 +1,10 @@
 -- The laws of the inverse word.
---     word-inverse, inverse-word    a word followed by its inverse, and the inverse followed by the word, equal nothing
---     inverse-inverse               the inverse of the inverse equals the word
---     inverse-append                the inverse of two words, one behind the other
---     inverse-equal                 equal words have equal inverses
---     nf-inverse-nf                 the inverse of the normal form has the inverse's normal form
---     inverse-form-short            the inverse's normal form has at most half as many letters again as the word's, and half a letter more
+--     word_inverse, inverse_word    a word followed by its inverse, and the inverse followed by the word, equal nothing
+--     inverse_inverse               the inverse of the inverse equals the word
+--     inverse_append                the inverse of two words, one behind the other
+--     inverse_equal                 equal words have equal inverses
+--     nf_inverse_nf                 the inverse of the normal form has the inverse's normal form
+--     inverse_form_short            the inverse's normal form has at most half as many letters again as the word's, and half a letter more
 -- Assumes nothing.
 use mathlib.Core.Path.{◌≡◌, sym, ap, ◌∙◌}
 use mathlib.Core.List.{[], ◌∷◌, ◌++◌, append_assoc, append-nil}

@@ -1,11 +1,11 @@
 -- The laws of the normal form and of equality by the rules. Later layers cite these and never open `nf`.
---     nf-normal         the normal form is normal
---     nf-of-normal      a normal word is its own normal form
---     equal-nf          a word and its normal form are equal
---     nf-of-equal       equal words have the same normal form
---     equal-of-nf       words with the same normal form are equal
---     nf-length         the normal form is not longer than the word
---     equal-append      equality is a congruence for putting words one behind the other
+--     nf_normal         the normal form is normal
+--     nf_of_normal      a normal word is its own normal form
+--     equal_nf          a word and its normal form are equal
+--     nf_of_equal       equal words have the same normal form
+--     equal_of_nf       words with the same normal form are equal
+--     nf_length         the normal form is not longer than the word
+--     equal_append      equality is a congruence for putting words one behind the other
 -- Assumes nothing.
 use mathlib.Core.Path.{◌≡◌, refl, sym, ap, subst, ◌∙◌}
 use mathlib.Core.Logic.{◌↔◌}

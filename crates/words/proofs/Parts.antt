@@ -1,5 +1,5 @@
 -- A word by its parts: that the normal words are those that are series of parts, and what the first letters leave to test.
---     parts-normal      a word is normal exactly when it is nothing, or parts that follow one another as document 01 says
+--     parts_normal      a word is normal exactly when it is nothing, or parts that follow one another as document 01 says
 -- Assumes nothing.
 use mathlib.Core.Bool.{Bool}
 use mathlib.Core.Path.{◌≡◌, sym, ap, subst, ◌∙◌}

@@ -1,5 +1,7 @@
 // Words in R and S, where RR and SSS vanish and no other rule holds: reduction to the normal form, inversion, and a test of
 // normality. Every call takes any slices whatever: it answers, or refuses by document 01's questions and changes nothing.
+#![tactic(auto)]
+
 mod arrival;
 mod normality;
 
@@ -15,16 +17,16 @@ ghost use Rattle.words.specs.Calls.{Reduces, Writes, Tests};
 pub use refusals::{Asked, Refusal};
 
 // A length in letters. It is never added to a length in factors.
-#[derive(Drop)]
+#[derive(Clone, Copy)]
 pub struct Letters(pub u16);
 
 // A length in factors.
-#[derive(Drop)]
+#[derive(Clone, Copy)]
 pub struct Factors(pub u16);
 
 // What became of a word's letters in reduction: how many were kept, and how many pairs RR and triples SSS went. Pairs and triples are counts of their own,
 // and are added neither to letters nor to factors.
-#[derive(Drop)]
+#[derive(Clone, Copy)]
 pub struct Account {
     pub kept: Letters,
     pub pairs: u16,
@@ -32,21 +34,21 @@ pub struct Account {
 }
 
 // The answer of reduction.
-#[derive(Drop)]
+#[derive(Clone, Copy)]
 pub enum Reduction {
     Done(Account),
     Refused(Refusal),
 }
 
 // The answer of another call that writes a word: the length written.
-#[derive(Drop)]
+#[derive(Clone, Copy)]
 pub enum Written {
     Length(Letters),
     Refused(Refusal),
 }
 
 // The answer of the test of normality.
-#[derive(Drop)]
+#[derive(Clone, Copy)]
 pub enum Tested {
     Normal,
     NotNormal,
