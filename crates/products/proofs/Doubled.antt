@@ -1,6 +1,6 @@
 -- A signed list is a plain list of twice as many generators: its own, and their inverses behind them. The numbers by which the second half is written keep the
 -- order of the places, so a verdict on the one is a verdict on the other.
---     signed-none-of, signed-member-of     a right verdict on the doubled list is one on the signed list, its factors written as signed numbers
+--     signed_none_of, signed_member_of     a right verdict on the doubled list is one on the signed list, its factors written as signed numbers
 -- Assumes at most 128 generators, so that no number is that of a generator and of an inverse.
 use mathlib.Core.Path.{◌≡◌, refl, ap, ◌∙◌}
 use mathlib.Core.List.{List, [], ◌∷◌, map}
@@ -99,6 +99,7 @@ module _ (gens : List Word) (few : length gens ≤ inverse_mark) where
   before_places : (s r : List ℕ) → Each (signed gens).Number s → Each (Factor (with_inverses gens)) r
       → Before s (map (signed_number (length gens)) r) → Before (map (place (length gens)) s) r
   before_places s [] f g b = absurd (before_nothing b)
+  before_places [] (i ∷ r) f g b = elim b [ ]
   before_places (k ∷ s) (i ∷ r) f g (smaller h) = smaller (twin_order (twin_of_number gens k f.0) (twin_of_place i g.0) h)
   before_places (k ∷ s) (i ∷ r) f g (further b) =
       rw (twin_same (twin_of_number gens k f.0) (twin_of_place i g.0)) (further (before_places s r f.1 g.1 b))

@@ -1,8 +1,8 @@
 -- A table is exact where each entry is the least weight of a series that leads from the one state to the other, or n + 1. That is the same as
 -- closed and sound.
---     exact-of-closed                a table that is closed and sound is exact
---     exact-closed, exact-sound      an exact table is closed and sound
---     exact-positive                 no entry is 0, where a factor weighs 1 or more
+--     exact_of_closed                a table that is closed and sound is exact
+--     exact_closed, exact_sound      an exact table is closed and sound
+--     exact_positive                 no entry is 0, where a factor weighs 1 or more
 -- Assumes that a series weighs what its parts weigh together, and that the generators are reduced where closed gives exact.
 use mathlib.Core.Path.{◌≡◌, refl, sym}
 use mathlib.Core.List.{List, [], ◌∷◌, ◌++◌, nil≢cons, append-ne-nil_of_right_ne-nil}

@@ -1,10 +1,10 @@
 -- The first series of a pair of states: of those that weigh what the table says none stands before it. How it is made of other pairs' firsts:
---     first-unique                a pair has no other first series
---     first_alike, first-shift    pairs that are the same element have the same first series
---     first-whole, first_part     at nothing: the least factor that fits, and then the first series from there
+--     first_unique                a pair has no other first series
+--     first_alike, first_shift    pairs that are the same element have the same first series
+--     first_whole, first_part     at nothing: the least factor that fits, and then the first series from there
 --     some_fit                    and some factor fits
---     first-halved                where there is no shift: the first series of two halves, no later than those of any others
---     some-tight                  and some halves add up
+--     first_halved                where there is no shift: the first series of two halves, no later than those of any others
+--     some_tight                  and some halves add up
 -- Assumes that the generators are reduced, that a series weighs what its parts weigh together and a factor 1 or more, and an exact table.
 use mathlib.Core.Path.{◌≡◌, refl, sym, subst, ◌∙◌}
 use mathlib.Core.Logic.Iff

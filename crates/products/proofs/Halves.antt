@@ -1,7 +1,7 @@
 -- How a series that leads from one state to another is taken apart, the series being kept.
---     shift-leads, shift-states      a shift of a pair is the same element: the same series lead there
---     unshifted-r, -ss, -s           where there is none
---     halves-leads, halves-states    what leads over the two halves of a pair, one behind the other, leads over the pair
+--     shift_leads, shift_states      a shift of a pair is the same element: the same series lead there
+--     unshifted_r, -ss, -s           where there is none
+--     halves_leads, halves_states    what leads over the two halves of a pair, one behind the other, leads over the pair
 --     halved                         where a pair has no shift, every series that leads there goes over two halves of it
 -- Assumes that the generators are reduced where series are taken apart, and nothing else.
 use mathlib.Core.Path.{◌≡◌, refl}

@@ -1,6 +1,6 @@
 -- What is true of every series that ends at a state is shown along the rules: by induction on the length of the series, then of the word.
---     lengths-induction    on two lengths
---     ends-induction       along the rules; what a rule asks of smaller instances holds of them
+--     lengths_induction    on two lengths
+--     ends_induction       along the rules; what a rule asks of smaller instances holds of them
 -- Assumes that the generators are reduced.
 use mathlib.Core.Path.{refl}
 use mathlib.Core.Logic.{◌≢◌}

@@ -1,8 +1,8 @@
 -- Words that cancel to nothing, by their parse: which letters cancel with which.
---     null-equal, equal-null    a word has a parse exactly when it equals the empty word
---     null-reduced              a normal word has no null factor but the empty one
---     null-ss                   two S's at the front of a null word belong together
---     null-before               before the first letter that is left of a word stands a null word
+--     null_equal, equal_null    a word has a parse exactly when it equals the empty word
+--     null_reduced              a normal word has no null factor but the empty one
+--     null_ss                   two S's at the front of a null word belong together
+--     null_before               before the first letter that is left of a word stands a null word
 -- Assumes nothing.
 use mathlib.Core.Path.{◌≡◌, refl, sym, ap, subst, ◌∙◌}
 use mathlib.Core.List.{[], ◌∷◌, ◌++◌, reverse, append_assoc, append-nil, reverse-cons, reverse-reverse, tail-eq_of_cons-eq}

@@ -1,8 +1,8 @@
 -- The order of series.
---     before-differs, before-trans       none stands before itself, and the order is transitive
---     no-later-append                    of two series, each no later than another, the one behind the other is no later than those two so
---     series-compare                     series that weigh the same are the same, or one is before the other
---     least-first-unique, member-unique  of the lightest there is but one first
+--     before_differs, before_trans       none stands before itself, and the order is transitive
+--     no_later_append                    of two series, each no later than another, the one behind the other is no later than those two so
+--     series_compare                     series that weigh the same are the same, or one is before the other
+--     least_first_unique, member_unique  of the lightest there is but one first
 -- Assumes nothing of words; where series are weighed, that a series weighs what its parts weigh together, and a factor 1 or more.
 use mathlib.Core.Path.{◌≡◌, refl, sym, ap, ◌∙◌}
 use mathlib.Core.Logic.{◌≢◌, ◌⊎◌, inl, inr}

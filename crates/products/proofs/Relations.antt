@@ -1,9 +1,9 @@
 -- Relations are products of the identity, and like every product they have a factor or more.
---     no-factors-none, no-factors-no-member    with a bound of 0 none is right and no member is, whatever the factors and the target
---     member-some                              a right member has a factor or more
---     reached-not-none                         where a rival reaches the target, a relation or another product, none is not right
---     vanishing-relation                       a generator that vanishes is a relation of one factor
---     signed-relation                          a generator and its inverse are a relation of two signed factors
+--     no_factors_none, no_factors_no_member    with a bound of 0 none is right and no member is, whatever the factors and the target
+--     member_some                              a right member has a factor or more
+--     reached_not_none                         where a rival reaches the target, a relation or another product, none is not right
+--     vanishing_relation                       a generator that vanishes is a relation of one factor
+--     signed_relation                          a generator and its inverse are a relation of two signed factors
 -- Assumes, where factors are signed, at most 128 generators.
 use mathlib.Core.Path.{◌≡◌}
 use mathlib.Core.List.{List, [], ◌∷◌, append-nil}

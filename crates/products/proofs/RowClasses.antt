@@ -1,10 +1,10 @@
 -- The series that the rows of a target are about: those of row i at q lead from nothing to the target's first i letters and then q, one letter
 -- after the other, each left behind while a state stands behind it.
---     reads_made, reads-append        what a series of the class makes, and that the class is kept where more leads on
---     reads-letter                    where the letter can stand before q, row i + 1 at q is row i at the letter and q
---     reads-complete                  every series that makes a reduced target, of one factor or more, is in its last row at nothing
---     row-least, row-reached          rows that are closed and attained hold the least weight of each class, up to the bound
---     rows-least                      so no series that reaches the target weighs less than the last row's entry at nothing, up to the bound
+--     reads_made, reads_append        what a series of the class makes, and that the class is kept where more leads on
+--     reads_letter                    where the letter can stand before q, row i + 1 at q is row i at the letter and q
+--     reads_complete                  every series that makes a reduced target, of one factor or more, is in its last row at nothing
+--     row_least, row_reached          rows that are closed and attained hold the least weight of each class, up to the bound
+--     rows_least                      so no series that reaches the target weighs less than the last row's entry at nothing, up to the bound
 -- Assumes that the generators are reduced where the class is shown to hold all; and, where weights are spoken of, an exact table and that a
 -- series weighs what its parts weigh together.
 use mathlib.Core.Path.{◌≡◌, refl, sym, subst, ◌∙◌}

@@ -1,10 +1,10 @@
 -- The first series of a row at a state: of those of its class that weigh what the row says none stands before it. How it is made:
---     row-first-unique    a row has no other first series there
---     row-first-all       in the last row at nothing it is the first of all series that make the target
---     row-first-start     in row 0 it is that of the pair from nothing
---     row-first-read      where the letter can stand before q it is the one of the row before: nothing is chosen
---     row-first-chain     elsewhere: that of the row before at the letter and v, and then that of the pair v, q, no later than over any other v
---     some-row-tight      and some v adds up
+--     row_first_unique    a row has no other first series there
+--     row_first_all       in the last row at nothing it is the first of all series that make the target
+--     row_first_start     in row 0 it is that of the pair from nothing
+--     row_first_read      where the letter can stand before q it is the one of the row before: nothing is chosen
+--     row_first_chain     elsewhere: that of the row before at the letter and v, and then that of the pair v, q, no later than over any other v
+--     some_row_tight      and some v adds up
 -- Assumes an exact table, rows that are closed and attained, and that a series weighs what its parts weigh together.
 use mathlib.Core.Path.{◌≡◌, sym, subst, ◌∙◌}
 use mathlib.Core.Logic.{◌≢◌, inl, inr}

@@ -1,6 +1,6 @@
 -- The rows of a target. Row i is about the word that undoes the target's first i letters, and the last row's entry at nothing is the verdict.
 -- Here is what makes rows closed and what makes their entries attained, and
---     read-sound, chain-sound   what the two rules of the rows promise of a series, said without inverses
+--     read_sound, chain_sound   what the two rules of the rows promise of a series, said without inverses
 -- Assumes nothing.
 use mathlib.Core.Path.{◌≡◌}
 use mathlib.Core.Logic.{◌⊎◌}

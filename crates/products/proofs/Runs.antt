@@ -1,8 +1,8 @@
 -- A run reads a word and then the generators of a series, letter by letter, and stops before a rest. The rest may be one of the word,
 -- where the series is empty, or one of the last generator: what is said of a letter's place need not tell these apart.
---     run-cut                   where a letter that is read falls, as two runs
---     run-letters               the letters that are read, and the rest
---     run-of-ends, ends-of-run  what ends at a state is a run over letters that cancel
+--     run_cut                   where a letter that is read falls, as two runs
+--     run_letters               the letters that are read, and the rest
+--     run_of_ends, ends_of_run  what ends at a state is a run over letters that cancel
 -- Assumes nothing; the generators are any words.
 use mathlib.Core.Path.{◌≡◌, refl, sym, ap, ◌∙◌}
 use mathlib.Core.List.{List, [], ◌∷◌, ◌++◌, append_assoc, append-nil, head-eq_of_cons-eq, tail-eq_of_cons-eq}

@@ -1,7 +1,7 @@
 -- Series of numbers, whatever the numbers name.
---     spelled-append, spelled-snoc, each_append   one series behind the other
---     spelled-map, each_map                       a series under other numbers
---     spelled-on, each_on                         what holds of each number holds of the series
+--     spelled_append, spelled_snoc, each_append   one series behind the other
+--     spelled_map, each_map                       a series under other numbers
+--     spelled_on, each_on                         what holds of each number holds of the series
 -- Assumes nothing.
 use mathlib.Core.Path.{◌≡◌, refl, sym, ap, ◌∙◌}
 use mathlib.Core.List.{List, [], ◌∷◌, ◌++◌, map, append_assoc, append-nil}

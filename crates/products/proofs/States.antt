@@ -1,7 +1,7 @@
 -- What it is that a series ends at a state, and the six rules by which it does. States and `Leads` are definitions of specs/State.antt.
---     step-leads, step-ends    each rule keeps `Leads` and keeps `Ends`
---     ends-leads               what ends at a state leads there
---     leads-ends-nothing       where nothing is left the two are the same
+--     step_leads, step_ends    each rule keeps `Leads` and keeps `Ends`
+--     ends_leads               what ends at a state leads there
+--     leads_ends_nothing       where nothing is left the two are the same
 -- Assumes nothing; the generators are any words.
 use mathlib.Core.Path.{◌≡◌, refl, sym, ap, ◌∙◌}
 use mathlib.Core.Logic.{◌≢◌}

@@ -1,7 +1,7 @@
 -- What inverse factors change: a list taken as a subgroup.
---     signed-none                              a target out of reach with the inverses is out of reach without them
---     plain-member-not-none, signed-no-more    a plain member is a signed one with no more factors
---     inverse-product, inverse-reached         the inverse of a signed product is a signed product of as many factors
+--     signed_none                              a target out of reach with the inverses is out of reach without them
+--     plain_member_not_none, signed_no_more    a plain member is a signed one with no more factors
+--     inverse_product, inverse_reached         the inverse of a signed product is a signed product of as many factors
 -- Assumes at most 128 generators, so that no number is that of a generator and of an inverse.
 use mathlib.Core.Path.{◌≡◌, refl}
 use mathlib.Core.List.{List, [], ◌∷◌, ◌++◌}

@@ -1,6 +1,6 @@
 -- A table on pairs of states that is closed under the rules holds at each pair no more than any series that leads there weighs, up to the bound.
---     ends-least     of the series that end at a state: along the rules
---     table-least    of all series that lead there: by where the first letter that is left comes from
+--     ends_least     of the series that end at a state: along the rules
+--     table_least    of all series that lead there: by where the first letter that is left comes from
 -- Assumes that the generators are reduced, and that a series weighs what its parts weigh together, be it nothing.
 use mathlib.Core.Path.{◌≡◌, refl}
 use mathlib.Core.Logic.{◌≢◌}

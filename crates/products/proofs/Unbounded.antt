@@ -1,7 +1,7 @@
 -- The verdict without a bound.
---     member-yes, no_none, yes-not-none     beside the bounded verdict: a member is a yes, a no is none for every n, and a yes is not none for some n
---     yes-not-no                            not both are right
---     verdict-yes, verdict-no               what the last row's entry at nothing says of the target, where series weigh nothing
+--     member_yes, no_none, yes_not_none     beside the bounded verdict: a member is a yes, a no is none for every n, and a yes is not none for some n
+--     yes_not_no                            not both are right
+--     verdict_yes, verdict_no               what the last row's entry at nothing says of the target, where series weigh nothing
 -- Assumes, where rows decide a no, that the generators and the target are reduced.
 use mathlib.Core.Path.{◌≡◌, refl}
 use mathlib.Core.List.{List, [], ◌++◌, append-nil}

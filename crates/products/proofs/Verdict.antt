@@ -1,6 +1,6 @@
 -- The rows of a target decide.
---     rows-closed-of, rows-attained-of         one round of rule F over what is read gives rows that are closed and attained
---     verdict-none, verdict-first              what the last row's entry at nothing says of the target
+--     rows_closed_of, rows_attained_of         one round of rule F over what is read gives rows that are closed and attained
+--     verdict_none, verdict_first              what the last row's entry at nothing says of the target
 -- Assumes that the generators and the target are reduced.
 use mathlib.Core.Path.{◌≡◌, refl}
 use mathlib.Core.Logic.{◌⊎◌, inl, inr}

@@ -1,11 +1,11 @@
 -- Residues modulo 7 of sums, products and negations.
---     residue-is                                         the residue of a difference p - n is that of p + 6 n
---     residue-sum, residue-product, residue-negated      residues of what is made of two numbers go by the numbers' residues
---     residues-times, residues-negated                   the same of matrices
+--     residue_is                                         the residue of a difference p - n is that of p + 6 n
+--     residue_sum, residue_product, residue_negated      residues of what is made of two numbers go by the numbers' residues
+--     residues_times, residues_negated                   the same of matrices
 -- Assumes nothing.
 use mathlib.Core.Path.{◌≡◌, refl, sym, ap, ap₂, ◌∙◌}
-use Prim.Native.Nat.{ℕ, suc, ◌+◌, ◌*◌, ◌-◌, ◌<◌, ◌/◌, ◌%◌}
-use native.Mathlib.Nat.{mod-lt, mod-mod, mod-eq_of_lt, add-mod, div-add-mod, add-mul-mod_self_left}
+use Prim.Native.Nat.{ℕ, ◌+◌, ◌*◌, ◌-◌, ◌<◌, ◌/◌, ◌%◌}
+use native.Mathlib.Nat.{mod-lt, mod-eq_of_lt, add-mod, div-add-mod, add-mul-mod_self_left}
 use native.Mathlib.Omega.{arith}
 use lib.Dec.{lit<}
 use lib.IntN.{ℤ, pos, negsuc, neg_ℤ, ◌+ℤ◌, ◌*ℤ◌}

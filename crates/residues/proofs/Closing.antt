@@ -1,14 +1,13 @@
 -- A closed set of images decides. The images of some generators were taken in, and the set has their products and no others; and it has every generator's image.
---     made-open       what it has is a product of generators' images
---     closed-no       what it lacks is none
+--     made_open       what it has is a product of generators' images
+--     closed_no       what it lacks is none
 -- Assumes nothing.
-use mathlib.Core.Path.{◌≡◌, refl, sym, ap, subst, ◌∙◌}
+use mathlib.Core.Path.{◌≡◌, sym, ap, subst, ◌∙◌}
 use mathlib.Core.List.{List, [], ◌∷◌}
 use Prim.Native.Nat.{ℕ, ◌<◌}
 use native.Mathlib.Nat.{not-suc-le-zero}
 use native.Mathlib.Omega.{arith}
 use lib.Dec.{lit≤}
-use lib.ListN.{length}
 use Rattle.words.specs.Word.{Word}
 use Rattle.products.specs.Product.{Factor, generator, Series, Counted, plain}
 use Rattle.residues.specs.Residues.{image, multiplied, image_of, QuickNoRight, OpenRight}

@@ -5,7 +5,7 @@ use mathlib.Core.Path.{◌≡◌}
 use mathlib.Core.List.{List, [], ◌∷◌, map, flat_map}
 use Prim.Native.Nat.{ℕ, zero, suc, ◌<◌, ◌/◌, ◌%◌}
 use lib.Dec.{T, eqb, eqb→eq}
-use lib.ListN.{length, get_or}
+use lib.ListN.{get_or}
 use Rattle.refusals.specs.Telling.{pick}
 use Rattle.words.specs.Word.{R, S, Word}
 use Rattle.unimodular.specs.Matrix.{matrix_of}

@@ -1,25 +1,25 @@
 -- The images of words.
---     image-modulo            a word's image is its matrix modulo 7, up to sign
---     agreed-images           words whose matrices are the same modulo 7, up to sign, have equal images
---     equal-images            equal words have equal images
---     image-walked            the image of a word behind another, letter by letter
---     image-product           and as the product of both images
+--     image_modulo            a word's image is its matrix modulo 7, up to sign
+--     agreed_images           words whose matrices are the same modulo 7, up to sign, have equal images
+--     equal_images            equal words have equal images
+--     image_walked            the image of a word behind another, letter by letter
+--     image_product           and as the product of both images
 --     number_small            every matrix of determinant 1 has a number
---     product-image           the product of the images of a series' factors is the image of its letters
+--     product_image           the product of the images of a series' factors is the image of its letters
 -- Assumes nothing.
-use mathlib.Core.Path.{◌≡◌, refl, sym, ap, ap₂, ◌∙◌, subst}
+use mathlib.Core.Path.{◌≡◌, refl, sym, ap, ◌∙◌}
 use mathlib.Core.List.{List, [], ◌∷◌, ◌++◌, flat_map}
 use Prim.Native.Nat.{ℕ, ◌<◌}
 use lib.Dec.{lit<}
 use lib.IntN.{pos}
-use Rattle.words.specs.Word.{Letter, Word, Equal}
+use Rattle.words.specs.Word.{Word, Equal}
 use Rattle.unimodular.specs.Matrix.{Matrix, unit, times, determinant, matrix_of_letter, matrix_of}
 use Rattle.unimodular.proofs.Product.{times_assoc, times_unit, unit_times, matrix_of_append}
 use Rattle.unimodular.proofs.Faithful.{matrix_of_equal}
 use Rattle.unimodular.proofs.Descent.{normal_form_exists}
 use Rattle.products.specs.Product.{Family, spelled}
 use Rattle.residues.specs.Residues.{Agree, numbering, quadruples, number_of, numbered, image, times_letter, multiplied, image_of}
-use Rattle.residues.proofs.Numbering.{agree_sign, agree_sym, agree_trans, agree_times, Shows, shows_number, number_shows, shows_agree, shows_times_letter}
+use Rattle.residues.proofs.Numbering.{agree_sign, agree_sym, agree_times, Shows, shows_number, number_shows, shows_agree, shows_times_letter}
 
 -- a word's letters on the right, one after the other
 abbrev pub walked : ℕ → Word → ℕ

@@ -1,18 +1,18 @@
 -- Inverses are powers: the 84th power of every matrix modulo 7 is the unit, up to sign. So an inverse factor brings no image that the generators do not make.
---     order-84             the 84th power of a word has the image of nothing
---     inverse-image        the image of an inverse is that of the 83rd power
---     signed-quick         the quick no holds with the inverses too: signed-none
+--     order_84             the 84th power of a word has the image of nothing
+--     inverse_image        the image of an inverse is that of the 83rd power
+--     signed_quick         the quick no holds with the inverses too: signed-none
 -- Assumes nothing.
 use mathlib.Core.Bool.{Bool, true, false}
-use mathlib.Core.Logic.{◌⊎◌, inl, inr}
+use mathlib.Core.Logic.{inl, inr}
 use mathlib.Core.Path.{◌≡◌, refl, sym, ap, ap₂, ◌∙◌}
 use mathlib.Core.List.{List, [], ◌∷◌, ◌++◌, append_assoc, append-nil, flat_map}
-use Prim.Native.Nat.{ℕ, suc, ◌≤◌, ◌<◌, ◌-◌}
+use Prim.Native.Nat.{ℕ, ◌≤◌, ◌<◌}
 use native.Mathlib.Omega.{arith}
 use lib.Dec.{T, ltb, lit≤}
-use lib.ListN.{length, get_or, drop, length-append}
+use lib.ListN.{length, drop, length-append}
 use Rattle.refusals.specs.Telling.{pick}
-use Rattle.words.specs.Word.{Word, none, back, inverse}
+use Rattle.words.specs.Word.{Word, none, inverse}
 use Rattle.words.proofs.NormalForm.{equal_append}
 use Rattle.words.proofs.Inverse.{inverse_word}
 use Rattle.unimodular.specs.Matrix.{Matrix, unit, negated, times, matrix_of}

@@ -1,8 +1,8 @@
 -- The product of numbers is that of a group's elements, since each number is the image of a word.
---     multiplied-small, multiplied-assoc, multiplied-unit      products are numbers below 168, in whatever order they are taken
---     multiplied-letter                                        a letter behind a product is one behind its second factor
+--     multiplied_small, multiplied_assoc, multiplied_unit      products are numbers below 168, in whatever order they are taken
+--     multiplied_letter                                        a letter behind a product is one behind its second factor
 -- Assumes nothing.
-use mathlib.Core.Path.{◌≡◌, refl, sym, ap, ap₂, subst, ◌∙◌}
+use mathlib.Core.Path.{◌≡◌, sym, ap, ap₂, subst, ◌∙◌}
 use mathlib.Core.List.{[], ◌∷◌, ◌++◌, append_assoc, append-nil}
 use Prim.Native.Nat.{ℕ, ◌<◌}
 use Rattle.words.specs.Word.{Letter, Word}

@@ -1,14 +1,14 @@
 -- The numbers of the matrices modulo 7, up to sign.
---     there-are-168, numbering-rises  how many there are, and their order
+--     there_are_168, numbering_rises  how many there are, and their order
 --     agree-..                        being the same modulo 7, up to sign, is an equivalence, and a congruence for the product
---     Shows, shows-number             k is the number of m where the matrix of k agrees with m; no other number does
---     shows-times-letter              a letter behind a matrix, and behind its number
+--     Shows, shows_number             k is the number of m where the matrix of k agrees with m; no other number does
+--     shows_times_letter              a letter behind a matrix, and behind its number
 -- What is computed are three tests over all 168 quadruples. Assumes nothing.
 use mathlib.Core.Bool.{Bool, true, false}
-use mathlib.Core.Logic.{◌⊎◌, inl, inr}
+use mathlib.Core.Logic.{inl, inr}
 use mathlib.Core.Path.{◌≡◌, refl, sym, ap, ap₂, ◌∙◌}
 use mathlib.Core.List.{List, [], ◌∷◌, flat_map}
-use Prim.Native.Nat.{ℕ, zero, suc, ◌<◌}
+use Prim.Native.Nat.{ℕ, suc, ◌<◌}
 use native.Mathlib.Nat.{not-suc-le-zero, le_of_suc-le-suc}
 use lib.Dec.{T, ltb, eqb, ltb→lt, eqb→eq}
 use lib.ListN.{length, get_or}
@@ -18,7 +18,7 @@ use Rattle.unimodular.specs.Matrix.{Matrix, unit, negated, times, UpToSign, matr
 use Rattle.unimodular.proofs.Product.{negated_negated, negated_times, times_negated}
 use Rattle.residues.specs.Residues.{Quadruple, residues, matrix, Agree, before, smaller, quadruples, numbering, is_same, position, number_of, numbered, times_letter}
 use Rattle.residues.proofs.Every.{both, both_left, both_right, every, at}
-use Rattle.residues.proofs.Arithmetic.{quadruple, residues_residues, residues_times, residues_negated}
+use Rattle.residues.proofs.Arithmetic.{quadruple, residues_times, residues_negated}
 
 -- 02: "The 168 matrices modulo 7, up to sign"
 pub there_are_168 : length numbering ≡ 168

@@ -1,11 +1,11 @@
 -- What a quick answer says of the verdicts.
---     quick-no, quick-none      whenever the quick no is given, no series reaches the target: no is right, and none for every n
---     yes-open                  a target that is reached is open
---     quick-not-open            not both are right
---     quick-empty               an empty list gets the quick no, whatever the target
+--     quick_no, quick_none      whenever the quick no is given, no series reaches the target: no is right, and none for every n
+--     yes_open                  a target that is reached is open
+--     quick_not_open            not both are right
+--     quick_empty               an empty list gets the quick no, whatever the target
 -- Assumes nothing.
-use mathlib.Core.Path.{◌≡◌, ◌∙◌}
-use mathlib.Core.List.{List, [], ◌∷◌}
+use mathlib.Core.Path.{◌∙◌}
+use mathlib.Core.List.{[], ◌∷◌}
 use Prim.Native.Nat.{ℕ}
 use native.Mathlib.Nat.{not-suc-le-zero}
 use Rattle.words.specs.Word.{Word}

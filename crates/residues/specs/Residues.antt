@@ -1,6 +1,6 @@
 -- Matrices modulo 7, up to sign: their numbers, the image of a word, products of images, and what makes a quick answer right. 02, M-106.
 -- Assumes nothing: these are definitions.
-use Rattle.std.specs.Prelude.{Bool, true, false, not, ◌⊎◌, ◌≡◌, ℕ, suc, ◌-◌, ◌%◌, ltb, eqb, ℤ, pos, negsuc, get_or}
+use Rattle.std.specs.Prelude.{Bool, false, not, ◌⊎◌, ◌≡◌, ℕ, suc, ◌-◌, ◌%◌, ltb, eqb, ℤ, pos, negsuc, get_or}
 use mathlib.Core.List.{List, [], ◌∷◌, map, flat_map}
 use Rattle.refusals.specs.Telling.{pick}
 use Rattle.words.specs.Word.{Letter, Word}

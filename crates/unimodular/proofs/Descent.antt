@@ -1,9 +1,9 @@
 -- One step from the right: the last part of a matrix's normal form, and the matrix of what stands before it.
 --     part, before, size     the part that an ending stands for, the matrix without it, the sum of the entries without signs
---     without-last-part      the tests on the entries find exactly the last part
---     ending-nothing, ending-something    they find none exactly where the normal form is empty
---     size-before, smaller_before    the matrix before is not larger, and smaller before an S or SS
---     normal-form-exists     so every matrix of determinant 1 has a normal form
+--     without_last_part      the tests on the entries find exactly the last part
+--     ending_nothing, ending_something    they find none exactly where the normal form is empty
+--     size_before, smaller_before    the matrix before is not larger, and smaller before an S or SS
+--     normal_form_exists     so every matrix of determinant 1 has a normal form
 -- Assumes nothing.
 use mathlib.Core.Path.{◌≡◌, refl, sym, ap, subst, ◌∙◌}
 use mathlib.Core.Logic.{inl, inr}

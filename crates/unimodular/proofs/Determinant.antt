@@ -1,8 +1,8 @@
 -- What determinant 1 says of the entries without their signs, and of the signs alone.
---     no-first-column, ..    no column and no row is 0, and the columns are not equal
+--     no_first_column, ..    no column and no row is 0, and the columns are not equal
 --     diagonal, antidiagonal    rows of which one has the first entry larger and one the second have nothing else in them
---     diagonal-unit          with nothing off the diagonal it is the unit matrix, up to sign
---     opposite-rows          if the entries of one row have opposite signs, then so do the other's
+--     diagonal_unit          with nothing off the diagonal it is the unit matrix, up to sign
+--     opposite_rows          if the entries of one row have opposite signs, then so do the other's
 -- Assumes nothing.
 use mathlib.Core.Path.{◌≡◌, refl, sym, ap, ◌∙◌}
 use mathlib.Core.Logic.{◌⊎◌, inl, inr}

@@ -1,9 +1,9 @@
 -- Words and their matrices say the same: two words are equal by the rules exactly when their matrices agree up to sign.
---     matrix-of-equal         the rules keep the matrix, up to sign
+--     matrix_of_equal         the rules keep the matrix, up to sign
 --     kernel                  a reduced word whose matrix is the unit matrix up to sign is empty
---     equal-of-matrix         words with the same matrix are equal
---     nf-iff-matrix           so the normal form and the matrix tell the same words apart
---     normal-form-unique, normal-form-of-word    a matrix has one normal form, and a word's matrix has the word's
+--     equal_of_matrix         words with the same matrix are equal
+--     nf_iff_matrix           so the normal form and the matrix tell the same words apart
+--     normal_form_unique, normal_form_of_word    a matrix has one normal form, and a word's matrix has the word's
 -- Assumes nothing.
 use mathlib.Core.Path.{◌≡◌, refl, sym, ap, ◌∙◌}
 use mathlib.Core.Logic.{inl, ◌↔◌}

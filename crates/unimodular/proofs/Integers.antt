@@ -1,6 +1,6 @@
 -- The laws of ℤ that matrices need and `lib.IntN` lacks. Each comes down to natural numbers, where omega multiplies out:
 -- a whole number is what it has over zero less what it has under zero, and so is a sum, a negation, a product of such differences.
---     same-value             two expressions that agree as differences have the same value: the way to prove an equation in ℤ
+--     same_value             two expressions that agree as differences have the same value: the way to prove an equation in ℤ
 --     *ℤ-assoc, *ℤ-+ℤ, ..    the laws of the product
 --     natAbs-..              the absolute value of a sum, a product, a negation
 -- Assumes nothing.

@@ -1,9 +1,9 @@
 -- The product of matrices, the sign, and the matrix of a word.
---     times-assoc, times-unit, unit-times      matrices are a monoid
---     negated-times, times-negated             a sign comes out of a product
---     sign-refl, sign-sym, sign-trans, sign-times    being the same up to sign is an equivalence, and a congruence for the product
---     matrixOf-append, matrixOf-snoc           the matrix of two words, one behind the other
---     times-r, times-s, times-ss               a letter behind a matrix moves and adds its columns
+--     times_assoc, times_unit, unit_times      matrices are a monoid
+--     negated_times, times_negated             a sign comes out of a product
+--     sign_refl, sign_sym, sign_trans, sign_times    being the same up to sign is an equivalence, and a congruence for the product
+--     matrix_of_append, matrix_of_snoc           the matrix of two words, one behind the other
+--     times_r, times_s, times_ss               a letter behind a matrix moves and adds its columns
 --     determinant-..                           the determinant of a word's matrix is 1, and a letter or a sign does not change it
 -- Assumes nothing.
 use mathlib.Core.Path.{◌≡◌, refl, sym, ap, ap₂, ◌∙◌}

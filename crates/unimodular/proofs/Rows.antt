@@ -1,6 +1,6 @@
 -- Two numbers side by side, as the columns of a matrix show them in one row: their signs agree, or are opposite. The number 0
 -- goes with either sign. Under the columns' sum and the sign these change as the absolute values say.
---     signsAgree, at_least, isZero   the tests
+--     signs_agree, at_least, is_zero   the tests
 --     Same, Opposite                what they say, in natural numbers
 -- Assumes nothing.
 use mathlib.Core.Path.{◌≡◌, refl, sym, ap₂, ◌∙◌}

@@ -1,8 +1,8 @@
 -- What a matrix of determinant 1 looks like, by the ending of its word.
 --     shape_of               every matrix of determinant 1 has the shape of its ending
---     ending-of-shape        and of no other
---     shape-r, shape-s, shape-ss    a part behind a matrix gives it that part's shape
---     shape-rr               what stands before an R does not end with one
+--     ending_of_shape        and of no other
+--     shape_r, shape_s, shape_ss    a part behind a matrix gives it that part's shape
+--     shape_rr               what stands before an R does not end with one
 -- Assumes nothing.
 use mathlib.Core.Path.{◌≡◌, refl, sym, ◌∙◌}
 use mathlib.Core.Logic.{◌⊎◌, inl, inr}

@@ -1,8 +1,8 @@
 -- By trying every series, for a small bound: antt computes the test, and one law turns it into the statement.
---     plain-tried, signed-tried    the numbers of a list, and those with its inverses, can all be tried
---     none-by-trying               a right `none`
---     member-by-trying             a right member
---     unequal-by-trying            two words that are not equal
+--     plain_tried, signed_tried    the numbers of a list, and those with its inverses, can all be tried
+--     none_by_trying               a right `none`
+--     member_by_trying             a right member
+--     unequal_by_trying            two words that are not equal
 -- Assumes nothing.
 use mathlib.Core.Bool.{Bool, true, false, not}
 use mathlib.Core.Path.{◌≡◌, refl, sym, ap, ◌∙◌}
