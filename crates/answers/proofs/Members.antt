@@ -1,13 +1,13 @@
 -- A member that is written has a factor or more: 02, M-105.
---     witnessed-some, witnessed-bytes    a witnessed member counts one factor or more, and the witness has as many bytes
---     member-witnessed                   and every such member is witnessed
---     member-0-missing                   a member of no factors is refused, and nothing is written
---     no-member-0                        so no line that is written is `member 0`
+--     witnessed_some, witnessed_bytes    a witnessed member counts one factor or more, and the witness has as many bytes
+--     member_witnessed                   and every such member is witnessed
+--     member_0_missing                   a member of no factors is refused, and nothing is written
+--     no_member_0                        so no line that is written is `member 0`
 -- Assumes nothing.
 use mathlib.Core.Bool.{Bool, true, false}
 use mathlib.Core.Path.{◌≡◌, refl, sym, ap, ◌∙◌}
 use mathlib.Core.List.{List, [], ◌∷◌, ◌++◌}
-use Prim.Native.Nat.{ℕ, zero, suc, ◌+◌, ◌≤◌}
+use Prim.Native.Nat.{ℕ, zero, suc, ◌≤◌}
 use native.Mathlib.Omega.{arith}
 use lib.Dec.{leb, ltb}
 use lib.ListN.{length, take, drop, length-append}

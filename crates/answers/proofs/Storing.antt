@@ -1,11 +1,11 @@
 -- Bytes that are stored one behind the other. Assumes nothing.
-use mathlib.Core.Path.{◌≡◌, refl, sym, ap, ◌∙◌}
+use mathlib.Core.Path.{◌≡◌, sym, ap, ◌∙◌}
 use mathlib.Core.List.{List, [], ◌∷◌, ◌++◌}
 use Prim.Native.Nat.{ℕ, suc, ◌+◌, ◌≤◌}
 use native.Mathlib.Nat.{add-zero, zero-add}
 use native.Mathlib.Omega.{arith}
 use lib.ListN.{length, drop, set, length-append}
-use lib.Seq.{sets, length-sets, sets-eq}
+use lib.Seq.{sets, sets-eq}
 use Rattle.slices.specs.Slices.{overwritten}
 use Rattle.answers.specs.Storing.{Stores}
 
@@ -14,16 +14,6 @@ sets_append [] b l at = ap (λ (k : ℕ). sets l k b) (sym (add-zero at))
 sets_append (x ∷ a) b l at =
     let e : suc at + length a ≡ at + suc (length a) = omega arith in
     sets_append a b (set l at x) (suc at) ∙ ap (λ (k : ℕ). sets (sets (set l at x) (suc at) a) k b) e
-
-pub stores_nothing : (at : ℕ) (l : List ℕ) → Stores [] at l at l
-stores_nothing at l =
-    record {
-      end_is = sym (add-zero at);
-      slice_is = refl;
-    }
-
-pub stores_length : {text before after : List ℕ} {at r : ℕ} → Stores text at before r after → length after ≡ length before
-stores_length {text} {before} {after} {at} s = ap length s.slice_is ∙ length-sets before at text
 
 -- one text behind another is one text
 pub stores_then : {a b before between after : List ℕ} {at m r : ℕ} → Stores a at before m between → Stores b m between r after → Stores (a ++ b) at before r after

@@ -1,4 +1,6 @@
 // The answer to a query card, and the line that says it.
+#![tactic(auto)]
+
 mod writing;
 
 ghost use Rattle.std.specs.Prelude.{true, ◌≡◌};
@@ -10,7 +12,7 @@ use words::{Factors, Refusal};
 pub const LINE_BYTES: usize = 4096;
 
 // A member with its count, none with the bound, or the refusal.
-#[derive(Drop)]
+#[derive(Clone, Copy)]
 pub enum Answer {
     Member(Factors),
     None(Factors),
@@ -18,7 +20,7 @@ pub enum Answer {
 }
 
 // How long the line is; or that the slice is too short for it; or a member without its factors: the count is 0, or the witness has fewer bytes.
-#[derive(Drop)]
+#[derive(Clone, Copy)]
 pub enum Lined {
     Length(usize),
     TooShort,

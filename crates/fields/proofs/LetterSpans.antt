@@ -1,25 +1,20 @@
 -- Where letters with their length in front start and end in a card, from what was answered of their length.
---     no_length     the length is cut off, and so are the letters
---     length-fits   the length is whole: its two bytes are in the card
---     span-cut, span-whole    the letters are cut off, or whole, by how many bytes are left behind their length
+--     length_fits   the length is whole: its two bytes are in the card
+--     span_whole    the letters are whole, where so many bytes are left behind their length
 -- Assumes nothing.
 use mathlib.Core.Path.{◌≡◌, refl, sym, ap, subst, ◌∙◌}
 use mathlib.Core.List.{List}
-use Prim.Native.Nat.{ℕ, ◌+◌, ◌-◌, ◌≤◌, ◌<◌}
+use Prim.Native.Nat.{ℕ, ◌+◌, ◌≤◌}
 use native.Mathlib.Omega.{arith}
 use lib.ListN.{length, drop}
 use Rattle.fields.specs.Field.{Read, Whole, Cut, next, bytes_field, number_field, letters_field}
 use Rattle.fields.specs.Answers.{short_of, SpanOf}
-use Rattle.fields.specs.declared.Short.TheVariants.{Whole as Short-as-Whole, Cut as Short-as-Cut}
-use Rattle.fields.specs.declared.Span.TheVariants.{Whole as Span-as-Whole, Cut as Span-as-Cut}
-use Rattle.fields.proofs.Reading.{bytes_whole, bytes_cut, after_number}
+use Rattle.fields.specs.declared.Short.TheVariants.{Whole as Short-as-Whole}
+use Rattle.fields.specs.declared.Span.TheVariants.{Whole as Span-as-Whole}
+use Rattle.fields.proofs.Reading.{bytes_whole, after_number}
 use Rattle.fields.proofs.PlacedNumbers.{part_there}
 
 -- what an answer says of the field
-cut_of : (f : Read ℕ) → Short-as-Cut ≡ short_of f → f ≡ Cut
-cut_of (Whole n rest) e = cc
-cut_of Cut e = refl
-
 whole_of : (f : Read ℕ) {len : ℕ} → Short-as-Whole len ≡ short_of f → (rest : List ℕ) × (f ≡ Whole len rest)
 whole_of (Whole n rest) {len} e = (rest, cc)
 whole_of Cut e = let z : ◌≡◌ {A = ℕ} 0 1 = cc in absurd (omega arith)
@@ -27,9 +22,6 @@ whole_of Cut e = let z : ◌≡◌ {A = ℕ} 0 1 = cc in absurd (omega arith)
 module _ (card : List ℕ) (at : ℕ) where
   abbrev letters : Read (List ℕ)
   letters = letters_field (drop at card)
-
-  pub no_length : Short-as-Cut ≡ short_of (number_field 2 (drop at card)) → SpanOf card letters Span-as-Cut
-  no_length e = subst (λ (f : Read ℕ). SpanOf card (next f bytes_field) Span-as-Cut) (sym (cut_of (number_field 2 (drop at card)) e)) refl
 
   module _ {len : ℕ} (e : Short-as-Whole len ≡ short_of (number_field 2 (drop at card))) where
     behind : (rest : List ℕ) × (number_field 2 (drop at card) ≡ Whole len rest)
@@ -40,9 +32,6 @@ module _ (card : List ℕ) (at : ℕ) where
 
     are_bytes : letters ≡ bytes_field len (drop (at + 2) card)
     are_bytes = ap (λ (f : Read ℕ). next f bytes_field) behind.1 ∙ ap (bytes_field len) (after_number 2 card at (omega arith) behind.1).0
-
-    pub span_cut : length card - (at + 2) < len → SpanOf card letters Span-as-Cut
-    span_cut h = subst (λ (f : Read (List ℕ)). SpanOf card f Span-as-Cut) (sym (are_bytes ∙ bytes_cut len card (at + 2) h)) refl
 
     pub span_whole : at + 2 + len ≤ length card → SpanOf card letters (Span-as-Whole (at + 2) (at + 2 + len))
     span_whole h =

@@ -1,8 +1,8 @@
 -- What is read of bytes, where it is whole and where it is cut off, and that what is spelled is read again.
---     bytes_whole, number-whole, bytes_cut, number_cut    at a place of a card: whole exactly where that many bytes are left
---     after-number, after-signed                          what stands behind a field that was read
---     number_spelled, complement-read                     a number is found again in its bytes, a signed one in its two's complement
---     bytes_read, number_read, letters-read, signed-read  a field that is written in front of a rest is read, and the rest is left
+--     bytes_whole, number_whole, bytes_cut, number_cut    at a place of a card: whole exactly where that many bytes are left
+--     after_number, after_signed                          what stands behind a field that was read
+--     number_spelled, complement_read                     a number is found again in its bytes, a signed one in its two's complement
+--     bytes_read, number_read, letters_read, signed_read  a field that is written in front of a rest is read, and the rest is left
 -- Assumes nothing.
 use mathlib.Core.Path.{◌≡◌, refl, ap, ◌∙◌}
 use mathlib.Core.List.{List, ◌++◌}

@@ -1,5 +1,7 @@
 // The fields of a query card, one at a time, from a place in a slice of any length. A field that is not whole is said to be cut off, wherever
 // the place is.
+#![tactic(auto)]
+
 mod complement;
 mod placed;
 pub mod reader;
@@ -8,28 +10,28 @@ ghost use Rattle.std.specs.Prelude.{◌≡◌, drop};
 ghost use Rattle.fields.specs.Field.{signed_field, letters_field};
 ghost use Rattle.fields.specs.Answers.{signed_of, SpanOf};
 
-#[derive(Drop)]
+#[derive(Clone, Copy)]
 pub enum Byte {
     Whole(u8),
     Cut,
 }
 
 // A number of 16 bits.
-#[derive(Drop)]
+#[derive(Clone, Copy)]
 pub enum Short {
     Whole(u16),
     Cut,
 }
 
 // A signed number of 64 bits.
-#[derive(Drop)]
+#[derive(Clone, Copy)]
 pub enum Signed {
     Whole(i64),
     Cut,
 }
 
 // Letters with their length in front: where they start and where they end.
-#[derive(Drop)]
+#[derive(Clone, Copy)]
 pub enum Span {
     Whole(usize, usize),
     Cut,

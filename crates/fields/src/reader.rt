@@ -7,7 +7,7 @@ ghost use Rattle.fields.specs.Answers.{byte_of, short_of};
 use crate::placed::{byte_at, short_at};
 use crate::{Byte, Short};
 
-#[derive(Drop)]
+#[derive(Clone, Copy)]
 pub struct Reader<'a> {
     pub card: &'a [u8],
     pub used: usize,

@@ -1,3 +1,2 @@
-mod SquareFits
 pub mod Passing
 pub mod Zeroed

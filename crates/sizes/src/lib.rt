@@ -1,5 +1,7 @@
 // The sizes of a verdict: the side of its tables, the questions that are asked once the list and the target are reduced (12 to 15), and the tables left
 // zeroed. Both tables are asked about and zeroed by the same functions.
+#![tactic(auto)]
+
 mod zeroing;
 
 ghost use Rattle.std.specs.Prelude.{◌≡◌, ◌*◌};
