@@ -1,7 +1,7 @@
 -- How long the normal forms are of generators that pass question 11, and those of their inverses.
---     form-short        each generator's has at most 80 letters
---     total-short       all the generators' together have at most 320
---     signed-short      these and the inverses' together have at most 832, where the generators are at most 64
+--     form_short        each generator's has at most 80 letters
+--     total_short       all the generators' together have at most 320
+--     signed_short      these and the inverses' together have at most 832, where the generators are at most 64
 -- Assumes nothing.
 use mathlib.Core.Bool.{Bool, true, false}
 use mathlib.Core.Path.{◌≡◌, refl}

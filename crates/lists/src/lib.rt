@@ -1,5 +1,7 @@
 // Lists of generators: the questions about a list's slices, and the list with its generators reduced, with their inverses behind them where that is asked for.
 // Every call takes any slices whatever.
+#![tactic(auto)]
+
 mod ends;
 mod inverting;
 mod reducing;
@@ -67,7 +69,7 @@ fn reduce_checked(bytes: &[u8], ends: &[u16], out: &mut [u8], out_ends: &mut [u1
 }
 
 // The letters of the given generators' normal forms together, and of these and the inverses'; or the refusal.
-#[derive(Drop)]
+#[derive(Clone, Copy)]
 pub enum Signed {
     Lengths(Letters, Letters),
     Refused(Refusal),

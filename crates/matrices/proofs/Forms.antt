@@ -1,7 +1,7 @@
 -- The matrix of a normal form: the product of its letters' matrices.
---     product-more           one letter more
+--     product_more           one letter more
 --     form-..                what questions 12 and 16 say of it
---     turns-form, ..         what is answered
+--     turns_form, ..         what is answered
 -- Assumes nothing.
 use mathlib.Core.Path.{◌≡◌, sym, ap, ◌∙◌}
 use mathlib.Core.Bool.{Bool}

@@ -1,6 +1,6 @@
 -- The normal form of a matrix, taken off it part by part from the right.
 --     Spelling                what stands from `at` on is what was taken off
---     spelling-begins, spelling-more, spelling-ends, spelling-stops    the loop's start, a turn, and its two ways out
+--     spelling_begins, spelling_more, spelling_ends, spelling_stops    the loop's start, a turn, and its two ways out
 -- Assumes nothing.
 use mathlib.Core.Path.{◌≡◌, refl, sym, ap, ap₂, subst, ◌∙◌}
 use mathlib.Core.List.{List, [], ◌∷◌, ◌++◌, map-append, append_assoc, append-nil}

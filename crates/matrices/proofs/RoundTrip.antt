@@ -1,6 +1,6 @@
 -- The two calls undo each other.
---     word-matrix-word       a word turned into its matrix, and that turned back, is the word's normal form
---     matrix-word-matrix     a matrix turned into its normal form, and that turned back, is the matrix up to sign
+--     word_matrix_word       a word turned into its matrix, and that turned back, is the word's normal form
+--     matrix_word_matrix     a matrix turned into its normal form, and that turned back, is the matrix up to sign
 -- Assumes nothing.
 use mathlib.Core.Path.{◌≡◌, refl, sym, ap, subst, ◌∙◌}
 use mathlib.Core.Logic.{inl, inr}

@@ -3,7 +3,7 @@
 --     read                   a number that fits is read back as it was
 --     computes               what equals a number that is small enough fits, and is read back as that number
 --     sum, difference, product, negation    the operations, of operands that are small enough
---     negative-test, positive-test          what a comparison with 0 says
+--     negative_test, positive_test          what a comparison with 0 says
 -- Assumes nothing.
 use mathlib.Core.Path.{◌≡◌, refl, sym, ap, ap₂, ◌∙◌}
 use mathlib.Core.Bool.{Bool, true, false, true≢false, false≢true}

@@ -1,7 +1,7 @@
 -- The sign that is returned.
---     first-positive, ..     which sign it is, by the comparisons
---     signed-sign            matrices that agree up to sign have the same, where the first row is not 0
---     sign-of-signed         it is one of the two
+--     first_positive_lem, ..     which sign it is, by the comparisons
+--     signed_sign            matrices that agree up to sign have the same, where the first row is not 0
+--     sign_of_signed         it is one of the two
 -- Assumes nothing.
 use mathlib.Core.Path.{◌≡◌, refl, sym, ap, ◌∙◌}
 use mathlib.Core.Logic.{inl, inr}

@@ -1,5 +1,7 @@
 // Elements of the modular group as 2 by 2 matrices of determinant 1, up to sign: a word turned into its matrix, and a matrix into its
 // normal form. Both calls take any input whatever.
+#![tactic(auto)]
+
 mod ending;
 mod forming;
 mod questions;
@@ -19,7 +21,7 @@ use slices::copying::copy_at;
 use words::{Asked, Letters, Reduction, Refusal, Written};
 
 // (a b; c d)
-#[derive(Drop)]
+#[derive(Clone, Copy)]
 pub struct Matrix {
     pub a: i64,
     pub b: i64,
@@ -28,7 +30,7 @@ pub struct Matrix {
 }
 
 // The answer of a call that turns a word into a matrix.
-#[derive(Drop)]
+#[derive(Clone, Copy)]
 pub enum Turned {
     Into(Matrix),
     Refused(Refusal),

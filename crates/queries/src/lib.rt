@@ -1,5 +1,7 @@
 // A list and a target, made ready for a search: both are reduced, and the tree of the generators' suffixes is built. This is where every call about a list and
 // one target begins; it puts questions 7 to 11.
+#![tactic(auto)]
+
 mod fitting;
 mod posing;
 
@@ -9,7 +11,7 @@ use crate::fitting::has_room;
 use words::{Asked, Letters, Refusal};
 
 // What is ready: m and t, which are the letters of the reduced list and of the target's form, and the number of the tree's nodes. Or the refusal.
-#[derive(Drop)]
+#[derive(Clone, Copy)]
 pub enum Posed {
     Ready(Letters, Letters, usize),
     Refused(Refusal),
@@ -30,9 +32,9 @@ pub fn pose(
 ) -> Posed
     ensures { Poses bytes.now ends.now target.now result
         (record {
-          form = form.entry.now;
+          form = form.old;
           tree = record {
-            letters = letters.entry.now;
+            letters = letters.old;
             rests = rests.old;
             children_r = children_r.old;
             children_s = children_s.old;
@@ -40,9 +42,9 @@ pub fn pose(
           };
         })
         (record {
-          form = form.exit.now;
+          form = form.new;
           tree = record {
-            letters = letters.exit.now;
+            letters = letters.new;
             rests = rests.new;
             children_r = children_r.new;
             children_s = children_s.new;
@@ -84,9 +86,9 @@ pub fn pose_reduced(
 ) -> Posed
     ensures { PosesForms list_letters.now list_ends.now target.now result
         (record {
-          form = form.entry.now;
+          form = form.old;
           tree = record {
-            letters = letters.entry.now;
+            letters = letters.old;
             rests = rests.old;
             children_r = children_r.old;
             children_s = children_s.old;
@@ -94,9 +96,9 @@ pub fn pose_reduced(
           };
         })
         (record {
-          form = form.exit.now;
+          form = form.new;
           tree = record {
-            letters = letters.exit.now;
+            letters = letters.new;
             rests = rests.new;
             children_r = children_r.new;
             children_s = children_s.new;

@@ -24,14 +24,14 @@ fn plant(
     ensures { ReducedList list_letters.now list_ends.now
         → Plants list_letters.now list_ends.now t.0 result
         (record {
-          letters = letters.entry.now;
+          letters = letters.old;
           rests = rests.old;
           children_r = children_r.old;
           children_s = children_s.old;
           wholes = wholes.old;
         })
         (record {
-          letters = letters.exit.now;
+          letters = letters.new;
           rests = rests.new;
           children_r = children_r.new;
           children_s = children_s.new;
@@ -68,9 +68,9 @@ pub(crate) fn pose_forms(
     ensures { ReducedList list_letters.now list_ends.now → of_letters target.now ≡ Asked.Passed
         → PosesReduced list_letters.now list_ends.now target.now result
         (record {
-          form = form.entry.now;
+          form = form.old;
           tree = record {
-            letters = letters.entry.now;
+            letters = letters.old;
             rests = rests.old;
             children_r = children_r.old;
             children_s = children_s.old;
@@ -78,9 +78,9 @@ pub(crate) fn pose_forms(
           };
         })
         (record {
-          form = form.exit.now;
+          form = form.new;
           tree = record {
-            letters = letters.exit.now;
+            letters = letters.new;
             rests = rests.new;
             children_r = children_r.new;
             children_s = children_s.new;
@@ -119,9 +119,9 @@ pub(crate) fn pose_list(
     requires room { Room most_of_list most_generators (length form.old) (length letters.old) (length rests.old) (length children_r.old) (length children_s.old) (length wholes.old) }
     ensures { PosesList bytes.now ends.now target.now result
         (record {
-          form = form.entry.now;
+          form = form.old;
           tree = record {
-            letters = letters.entry.now;
+            letters = letters.old;
             rests = rests.old;
             children_r = children_r.old;
             children_s = children_s.old;
@@ -129,9 +129,9 @@ pub(crate) fn pose_list(
           };
         })
         (record {
-          form = form.exit.now;
+          form = form.new;
           tree = record {
-            letters = letters.exit.now;
+            letters = letters.new;
             rests = rests.new;
             children_r = children_r.new;
             children_s = children_s.new;

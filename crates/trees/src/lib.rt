@@ -1,4 +1,6 @@
 // The tree of suffixes of a list of generators: its nodes are the states of the engine's tables, each with one number.
+#![tactic(auto)]
+
 pub mod entries;
 mod fitting;
 mod growing;
@@ -7,7 +9,7 @@ mod reading;
 ghost use Rattle.trees.specs.Building.{Builds};
 
 // The answer of `build`.
-#[derive(Drop)]
+#[derive(Clone, Copy)]
 pub enum Built {
     Nodes(usize),
     Unfit,
@@ -26,14 +28,14 @@ pub fn build(
 ) -> Built
     ensures { Builds bytes.now ends.now
         (record {
-          letters = letters.entry.now;
+          letters = letters.old;
           rests = rests.old;
           children_r = children_r.old;
           children_s = children_s.old;
           wholes = wholes.old;
         })
         (record {
-          letters = letters.exit.now;
+          letters = letters.new;
           rests = rests.new;
           children_r = children_r.new;
           children_s = children_s.new;
