@@ -1,6 +1,6 @@
 -- What the items of a query say of its target.
 --     attained         every item that weighs between 1 and the bound is attained by tight parts
---     derived-right    the first series of the last row at node 0 is a right member
+--     derived_right    the first series of the last row at node 0 is a right member
 --     none_right       where that item weighs more than the bound, none is right
 -- Assumes a query.
 use mathlib.Core.Path.{◌≡◌, sym, ap₂, subst, subst₂, ◌∙◌}

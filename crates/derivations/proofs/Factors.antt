@@ -1,7 +1,7 @@
 -- The ways at node 0 are the factors that fit at the empty word.
 --     fitting    what the parts by a factor say of its generator
---     parts-sum  what its parts weigh is what the table says of its generator
---     fit-tight  the parts by a factor that fits are tight
+--     parts_sum  what its parts weigh is what the table says of its generator
+--     fit_tight  the parts by a factor that fits are tight
 -- Assumes a query.
 use mathlib.Core.Path.{◌≡◌, refl, sym, ap, ◌∙◌}
 use mathlib.Core.List.{List, [], ◌∷◌}

@@ -1,6 +1,6 @@
 -- The halves of a pair of nodes are halves of their words, and every halves of their words is that of the nodes in some way.
 --     halving      what the halves of two nodes, in a way, say of their words
---     halving-way  the way of any halves of the words
+--     halving_way  the way of any halves of the words
 -- Assumes a query.
 use mathlib.Core.Bool.{Bool}
 use mathlib.Core.Path.{◌≡◌, sym, ap, ◌∙◌}

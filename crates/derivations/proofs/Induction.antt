@@ -1,6 +1,6 @@
 -- The induction on first series: what is so of each factor, and of an item where it is so of the parts of its candidates, is so of every item.
---     firsts-so    so it is of every item that has a first series
---     joins-so     and then of parts that have one
+--     firsts_so    so it is of every item that has a first series
+--     joins_so     and then of parts that have one
 -- Assumes nothing: any items, parts and weights.
 use mathlib.Core.Path.{◌≡◌, refl}
 use mathlib.Core.List.{List, [], ◌∷◌, ◌++◌}

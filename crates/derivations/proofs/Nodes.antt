@@ -1,10 +1,10 @@
 -- The nodes of a query's tree as words: what an item of two nodes weighs is the table's entry at their words, and a node's letter, rest and children
 -- are read at its word.
---     node-state, pair-weight, pair-some      a node's word is a state; a pair weighs its entry, 1 or more
---     factor-weight                           a factor weighs 1
---     child-inside, child-word, state-child   the child by a letter is a node, has that letter in front, and is there where that is a state
---     letter-of, begins                       what a node's word begins with, and whether it is that letter
---     begins-so, begins-other                 and the answer, from the word
+--     node_state, pair_weight, pair_some      a node's word is a state; a pair weighs its entry, 1 or more
+--     factor_weight                           a factor weighs 1
+--     child_inside, child_word, state_child   the child by a letter is a node, has that letter in front, and is there where that is a state
+--     letter_of, begins                       what a node's word begins with, and whether it is that letter
+--     begins_so, begins_other                 and the answer, from the word
 -- Assumes a query.
 use mathlib.Core.Bool.{Bool, true, false}
 use mathlib.Core.Path.{◌≡◌, refl, sym, ap, subst, ◌∙◌}

@@ -1,5 +1,5 @@
 -- The first series of a pair of nodes, by its parts, is the first of the series that lead from the one word to the other.
---     pairs-attained    a pair that weighs n or less has tight parts in some way
+--     pairs_attained    a pair that weighs n or less has tight parts in some way
 --     pairs_first       and its first series is the first that leads from word to word
 -- Assumes a query.
 use mathlib.Core.Bool.{Bool, true, false}

@@ -1,6 +1,6 @@
 -- Pairs from node 0: the parts are a factor and what leads on from it.
---     root-attained    such a pair that weighs n or less has tight parts in some way
---     root-first       and by its candidates its series is the first that leads there from nothing
+--     root_attained    such a pair that weighs n or less has tight parts in some way
+--     root_first       and by its candidates its series is the first that leads there from nothing
 -- Assumes a query.
 use mathlib.Core.Path.{◌≡◌, refl, sym, subst}
 use mathlib.Core.List.{List, []}
@@ -12,14 +12,14 @@ use Rattle.words.specs.Word.{Word}
 use Rattle.products.specs.Product.{measure}
 use Rattle.products.proofs.Exact.{measure_append, measure_factor}
 use Rattle.products.proofs.Firsts.{First, Fit, some_fit, first_whole, first_part}
-use Rattle.trees.specs.Tree.{at, word_at}
+use Rattle.trees.specs.Tree.{word_at}
 use Rattle.derivations.specs.declared.Parts.{Parts}
-use Rattle.derivations.specs.declared.Parts.TheVariants.{One, Two}
+use Rattle.derivations.specs.declared.Parts.TheVariants.{One, Two, Nothing}
 use Rattle.derivations.specs.Derivations.{Alone, Tight, Candidate}
 use Rattle.derivations.specs.Ways.{World, parts_in, weight_in}
 use Rattle.derivations.specs.Query.{Query}
 use Rattle.derivations.proofs.Nodes.{entry_at, PairSo, reduced, entries_exact, node_state}
-use Rattle.derivations.proofs.Factors.{by_factor_in, Fitting, alone, ahead, fitting, fit_tight, root_weight, parts_sum}
+use Rattle.derivations.proofs.Factors.{by_factor_in, Fitting, never, alone, ahead, fitting, fit_tight, root_weight, parts_sum}
 use Rattle.derivations.proofs.Induction.{PartsSo, Choice}
 
 module _ {gens words : List Word} {n : ℕ} {w : World} (query : Query gens words n w) where
@@ -44,6 +44,7 @@ module _ {gens words : List Word} {n : ℕ} {w : World} (query : Query gens word
     tight_alone : (ps : Parts) → Tight (weight_in w) 1 y ps → Alone 1 ps
     tight_alone (One a b) t = tt
     tight_alone (Two a b c d) t = refl
+    tight_alone Nothing t = elim t [ ]
 
     -- so a candidate is the least factor that fits
     candidate_least : (d : ℕ) → Candidate (parts_in w) (weight_in w) 1 y d → (i : ℕ) → Fit gens measure T (word_at words y) i → d ≤ i
@@ -68,6 +69,7 @@ module _ {gens words : List Word} {n : ℕ} {w : World} (query : Query gens word
         rw (split, itself)
         (first_part gens measure measure_append (measure_factor gens) n T (reduced query) (entries_exact query) (word_at words y) (node_state query y k) root_low
         d least f (parts_sum query y k d f sum) behind on)
+    first_by_factor never t so least = elim t [ ]
 
     pub root_first : {r : List ℕ} → Choice (parts_in w) (weight_in w) (PairSo gens words n w) 1 y r → First gens measure T (word_at words 0) (word_at words y) r
     root_first {r} choice =

@@ -1,8 +1,8 @@
 -- The items of rows: what stands in a row is attained by the parts of some way, and the first series of an item is that of the row at the node's word.
---     rows-attained    an item of row 1 or a further one, up to the bound, has tight parts
---     rows-first       its first series is the first of the row's
+--     rows_attained    an item of row 1 or a further one, up to the bound, has tight parts
+--     rows_first       its first series is the first of the row's
 -- Assumes a query.
-use mathlib.Core.Path.{◌≡◌, refl, sym, ap, subst, ◌∙◌}
+use mathlib.Core.Path.{◌≡◌, refl, sym, subst, ◌∙◌}
 use mathlib.Core.List.{List, ◌∷◌}
 use Prim.Native.Nat.{ℕ, zero, suc, ◌+◌, ◌≤◌, ◌<◌}
 use native.Mathlib.Decide.{ℕ_discrete}
@@ -24,7 +24,7 @@ use Rattle.derivations.specs.Ways.{World, row_item, parts_in, weight_in}
 use Rattle.derivations.specs.Query.{Query}
 use Rattle.derivations.proofs.Nodes.{entry_at, entries_exact, node_state, node_of_state, pair_weight, pair_some}
 use Rattle.derivations.proofs.Pairs.{pairs_first}
-use Rattle.derivations.proofs.RowParts.{row_in, letter_in, read_in, RowWay, reading, chaining, root_inside, rows_closed, rows_reached, row_weight, row_some}
+use Rattle.derivations.proofs.RowParts.{row_in, letter_in, read_in, RowWay, none, reading, chaining, root_inside, rows_closed, rows_reached, row_weight, row_some}
 use Rattle.derivations.proofs.RowParts.{letter_there, read_inside, read_word_lem, read_weight, read_state, state_read}
 use Rattle.derivations.proofs.RowParts.{reading_parts, chaining_parts, row_way}
 
@@ -62,6 +62,7 @@ module _ {gens words : List Word} {n : ℕ} {w : World} (query : Query gens word
           state = read_state query i v inside some;
           sum = omega (arith, read_weight query i v (omega arith) inside some, pair_weight query v q inside k, next_weight);
         }
+    tight_row v none z t = elim t [ ]
 
     row_tight : (v : ℕ) → v < w.count → read_in w i q ≡ 0 → RowTight gens T Row i (letter_in w i) (word_at words q) (word_at words v)
         → Tight (weight_in w) (row (suc i)) q (parts_in w (row (suc i)) q v)
@@ -78,6 +79,7 @@ module _ {gens words : List Word} {n : ℕ} {w : World} (query : Query gens word
     not_alone : (v : ℕ) {ps : Parts} → RowWay w i q v ps → read_in w i q ≡ 0 → Alone (row (suc i)) ps → ⊥
     not_alone v (reading some) z a = some z
     not_alone v (chaining _ inside some) z a = omega arith
+    not_alone v none z a = elim a [ ]
 
     unread : read_in w i q ≡ 0 → State gens (letter_in w i ∷ word_at words q) → ⊥
     unread z s = state_read query i q k s z
@@ -142,6 +144,7 @@ module _ {gens words : List Word} {n : ℕ} {w : World} (query : Query gens word
               (before (read_in w i v) (read_inside query i v inside) r f (omega arith));
           second = pairs_first query v q inside k g (omega arith);
         }
+    joined_row q v k within none z t j = elim t [ ]
 
     next_first : RowSo (suc i)
     next_first q k r (chosen d _ c j others joined no_later) within = by_way (row_way query i q d) j c.tight
@@ -169,6 +172,7 @@ module _ {gens words : List Word} {n : ℕ} {w : World} (query : Query gens word
             let (v, inside', same) = node_of_state query u (state_tail gens tight.state) in
             subst (λ (u : Word). (s : List ℕ) × RowJoined gens measure T x Row i (letter_in w i) (word_at words q) u s × NoLater r s) same
             (over z v inside' (subst (RowTight gens T Row i (letter_in w i) (word_at words q)) (sym same) tight)))
+        by_way none j t = elim j [ ]
 
   pub rows_first : (i q : ℕ) → i ≤ length w.target → q < w.count → {r : List ℕ}
       → Firsts (parts_in w) (weight_in w) (row_item w.count i) q r → weight_in w (row_item w.count i) q ≤ n

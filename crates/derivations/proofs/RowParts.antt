@@ -1,8 +1,8 @@
 -- The rows of a query's target as words: what an item of a row weighs is the row's entry at the node's word, and what its parts in a way are.
---     rows-closed, rows-reached              the rows at words are closed and attained
---     row-weight, row-some                   an item of a row weighs the row's entry, 1 or more
---     letter-there, read_word, state-read    the target's letter, and the node that has it in front of another
---     row-way                                the parts of an item of row 1 or a further one
+--     rows_closed, rows_reached              the rows at words are closed and attained
+--     row_weight, row_some                   an item of a row weighs the row's entry, 1 or more
+--     letter_there, read_word, state_read    the target's letter, and the node that has it in front of another
+--     row_way                                the parts of an item of row 1 or a further one
 -- Assumes a query.
 use mathlib.Core.Bool.{Bool, true, false}
 use mathlib.Core.Path.{◌≡◌, refl, sym, ap, ◌∙◌}
@@ -23,9 +23,8 @@ use Rattle.products.proofs.Tables.{weight_positive}
 use Rattle.products.proofs.Rows.{RowsClosed, RowsAttained}
 use Rattle.products.proofs.RowClasses.{LetterAt, reads_some, reads_series, row_reached}
 use Rattle.products.proofs.Verdict.{Rounds, rows_closed_of, rows_attained_of}
-use Rattle.trees.specs.Tree.{at, word_at, most_of_entry}
+use Rattle.trees.specs.Tree.{at, word_at}
 use Rattle.trees.proofs.Nodes.{node_number_at}
-use Rattle.tables.specs.Rules.{place}
 use Rattle.rows.proofs.WordRows.{row_at, read_word, letter_at, rows_rounds}
 use Rattle.derivations.specs.declared.Parts.{Parts}
 use Rattle.derivations.specs.declared.Parts.TheVariants.{One, Two, Nothing}

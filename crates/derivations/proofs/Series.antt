@@ -1,7 +1,7 @@
 -- Laws of first series, whatever the items' parts and weights are.
---     firsts-length, joins-length    a first series has as many factors as its item weighs, and so have parts that are tight
---     firsts-unique, joins-unique    an item has no other first series, and no more have parts
---     same-length-compare            of two series that are as long one is no later than the other
+--     firsts_length, joins_length    a first series has as many factors as its item weighs, and so have parts that are tight
+--     firsts_unique, joins_unique    an item has no other first series, and no more have parts
+--     same_length_compare            of two series that are as long one is no later than the other
 -- Assumes nothing.
 use mathlib.Core.Path.{◌≡◌, refl, sym, ap, ap₂, subst, ◌∙◌}
 use mathlib.Core.Logic.{◌⊎◌}
@@ -12,7 +12,7 @@ use lib.ListN.{length, length-append}
 use Rattle.products.specs.Product.{Each, Before}
 use Rattle.products.proofs.Order.{NoLater, no_later_antisym, series_compare}
 use Rattle.derivations.specs.declared.Parts.{Parts}
-use Rattle.derivations.specs.declared.Parts.TheVariants.{One, Two}
+use Rattle.derivations.specs.declared.Parts.TheVariants.{One, Two, Nothing}
 use Rattle.derivations.specs.Derivations.{Tight, Firsts, Joins, factor, chosen, one, two}
 use Rattle.derivations.proofs.Induction.{PartsSo, Choice, firsts_so, joins_so}
 
@@ -25,6 +25,7 @@ module _ (parts : ℕ → ℕ → ℕ → Parts) (weight : ℕ → ℕ → ℕ) 
   long_of_parts : (ps : Parts) (x y : ℕ) (r : List ℕ) → PartsSo Long ps r → Tight weight x y ps → Long x y r
   long_of_parts (One a b) x y r e t = e ∙ t.2
   long_of_parts (Two a b c d) x y r (p, q, split, e, f) t = ap length split ∙ length-append p q ∙ ap₂ (λ (m n : ℕ). m + n) e f ∙ t.2
+  long_of_parts Nothing x y r e t = elim e [ ]
 
   pub firsts_length : {x y : ℕ} {r : List ℕ} → Firsts parts weight x y r → length r ≡ weight x y
   firsts_length f =
@@ -38,9 +39,12 @@ module _ (parts : ℕ → ℕ → ℕ → Parts) (weight : ℕ → ℕ → ℕ) 
   abbrev Only : ℕ → ℕ → List ℕ → Type 0
   Only x y r = (s : List ℕ) → Firsts parts weight x y s → r ≡ s
 
+  only_of_joins : {ps : Parts} {r s : List ℕ} → Joins parts weight ps s → PartsSo Only ps r → r ≡ s
+  only_of_joins {s = s} (one f) only = only s f
+  only_of_joins (two {r = p'} {s = q'} f g) (p, q, split, only, only') = split ∙ ap₂ (λ (a b : List ℕ). a ++ b) (only p' f) (only' q' g)
+
   only_of_parts : {ps : Parts} {r s : List ℕ} → PartsSo Only ps r → Joins parts weight ps s → r ≡ s
-  only_of_parts {s = s} only (one f) = only s f
-  only_of_parts (p, q, split, only, only') (two {r = p'} {s = q'} f g) = split ∙ ap₂ (λ (a b : List ℕ). a ++ b) (only p' f) (only' q' g)
+  only_of_parts only j = only_of_joins j only
 
   only_factor : (j : ℕ) → Only 0 j (j ∷ [])
   only_factor j s (factor e) = refl

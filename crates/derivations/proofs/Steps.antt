@@ -1,8 +1,8 @@
 -- What an item that weighs k is still to cost, where its first number is `row` and first numbers are at most half of w: a number that falls where the item
 -- gives way to its parts.
---     steps-some    an item that weighs something costs something
---     steps-one     it falls to one part, with a lower first number
---     steps-wide    and to two parts, which share out what it weighs
+--     steps_some    an item that weighs something costs something
+--     steps_one     it falls to one part, with a lower first number
+--     steps_wide    and to two parts, which share out what it weighs
 -- Assumes nothing.
 use mathlib.Core.Path.{◌≡◌}
 use Prim.Native.Nat.{ℕ, zero, suc, ◌+◌, ◌-◌, ◌*◌, ◌≤◌, ◌<◌}

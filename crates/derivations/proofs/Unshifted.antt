@@ -1,6 +1,6 @@
 -- Pairs that have no shift: the parts are two halves.
---     unshifted-attained    such a pair that weighs n or less has tight halves in some way
---     unshifted-first       and by its candidates its series is the first that leads from word to word
+--     unshifted_attained    such a pair that weighs n or less has tight halves in some way
+--     unshifted_first       and by its candidates its series is the first that leads from word to word
 -- Assumes a query.
 use mathlib.Core.Path.{◌≡◌, refl, sym, subst, ◌∙◌}
 use mathlib.Core.List.{List}
@@ -19,7 +19,7 @@ use Rattle.derivations.specs.Derivations.{Alone, Tight, Candidate}
 use Rattle.derivations.specs.Ways.{World, parts_in, weight_in}
 use Rattle.derivations.specs.Query.{Query}
 use Rattle.derivations.proofs.Nodes.{entry_at, PairSo, reduced, entries_exact, node_state, node_some, pair_weight, pair_some}
-use Rattle.derivations.proofs.Halved.{halves_in, Halving, both, HalvingWay, way, halving, halving_way}
+use Rattle.derivations.proofs.Halved.{halves_in, Halving, none, both, HalvingWay, way, halving, halving_way}
 use Rattle.derivations.proofs.Induction.{PartsSo, Choice}
 
 module _ {gens words : List Word} {n : ℕ} {w : World} (query : Query gens words n w) where
@@ -63,6 +63,7 @@ module _ {gens words : List Word} {n : ℕ} {w : World} (query : Query gens word
     -- no way of halves decides
     halves_undecided : {ps : Parts} → Halving gens words w.count p y ps → Alone (suc p) ps → ⊥
     halves_undecided (both _ _ _ _ _ _ _ _ _) one = some (omega arith)
+    halves_undecided none one = elim one [ ]
 
     -- the first series of both halves
     joined : (a b c e : ℕ) (r : List ℕ) → a < w.count → b < w.count → c < w.count → e < w.count → Tight (weight_in w) (suc p) y (Two (suc a) b (suc c) e)
@@ -106,6 +107,7 @@ module _ {gens words : List Word} {n : ℕ} {w : World} (query : Query gens word
             (record { halves = halves; sum = sum_tight a b c e ia ib ic ie t })
             (joined a b c e r ia ib ic ie t so)
             (λ x s t' o tight. other_joined (halving_way query p y some h k tight.halves refl refl) tight.sum)
+        first_by_halves none t so = elim t [ ]
 
         pub unshifted_first : First gens measure T (word_at words p) (word_at words y) r
         unshifted_first =

@@ -1,9 +1,9 @@
 -- What items weigh, and how far their ways go.
---     factor-weight    a factor weighs 1
---     item-inside      any other item that weighs 1 or more is inside the table, and weighs what stands there
---     tight-weight     where parts are tight the item weighs 1 or more
---     no-more-ways     from `ways` on no parts are tight
---     row-behind-pairs the items of row 1 and of each further row stand behind the pairs
+--     factor_weight    a factor weighs 1
+--     item_inside      any other item that weighs 1 or more is inside the table, and weighs what stands there
+--     tight_weight     where parts are tight the item weighs 1 or more
+--     no_more_ways     from `ways` on no parts are tight
+--     row_behind_pairs the items of row 1 and of each further row stand behind the pairs
 -- Assumes nothing.
 use mathlib.Core.Bool.{Bool, true, false}
 use mathlib.Core.Path.{◌≡◌, refl, subst, ◌∙◌}

@@ -1,9 +1,11 @@
 // Items by their numbers: what an item weighs, its parts in a way, and whether those weigh what it does (Rattle.derivations, specs/Ways.antt). Nothing is
 // asked of the slices: a place that a slice does not have reads as 0, and what is no item weighs 0.
+#![tactic(auto)]
+
 mod halves;
 mod pairs;
-mod rows;
 mod shifts;
+mod target_rows;
 mod weights;
 
 ghost use Rattle.std.specs.Prelude.{◌≡◌, ◌≤◌};
@@ -72,7 +74,7 @@ pub fn parts(
             count, letters, rests, children_r, children_s, wholes, counts, x, y, d,
         );
     }
-    rows::next_row(target, count, children_r, children_s, x - 1 - count, y, d)
+    target_rows::next_row(target, count, children_r, children_s, x - 1 - count, y, d)
 }
 
 // Are the parts tight at the item?

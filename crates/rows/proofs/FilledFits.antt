@@ -1,6 +1,6 @@
 -- The rows over a table that was filled.
---     filled-fits    it fits the rows of any target that is not too long
---     rows-filled    where the inputs fit, the rows are filled
+--     filled_fits    it fits the rows of any target that is not too long
+--     rows_filled    where the inputs fit, the rows are filled
 -- Assumes nothing.
 use mathlib.Core.Bool.{Bool, true, false}
 use mathlib.Core.Path.{sym}

@@ -1,6 +1,6 @@
 -- What the last row's entry at nothing says of a target, where the table tells of each pair only whether some series leads from the one to the other.
---     row-yes    0: some series reaches the target
---     row-no     another entry: none does
+--     row_yes    0: some series reaches the target
+--     row_no     another entry: none does
 -- Assumes the tree of normal generators, its table, and the rows of the target; and, for a no, that the target is normal.
 use mathlib.Core.Path.{◌≡◌, ap}
 use mathlib.Core.List.{List, []}

@@ -1,6 +1,6 @@
 -- The table and the rows, read at words: the numbers of the nodes are put away, and what the numbers promise is what the products ask.
---     table-exact    the table at words is exact
---     rows-rounds    the rows at words are rounds over what is read
+--     table_exact    the table at words is exact
+--     rows_rounds    the rows at words are rounds over what is read
 -- Assumes a tree of the generators; the one its exact table, the other the rows of the target.
 use mathlib.Core.Bool.{Bool, true, false}
 use mathlib.Core.Logic.{◌⊎◌, inl, inr}

@@ -1,4 +1,6 @@
 // The rows of a target over the table of pairs: what the target's letters make of the table, letter by letter.
+#![tactic(auto)]
+
 mod filling;
 mod fitting;
 

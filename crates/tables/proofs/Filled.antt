@@ -1,5 +1,5 @@
 -- What `fill` and `close` promise.
---     filled-part     of a front part of the table that is full
+--     filled_part     of a front part of the table that is full
 --     table_filled    where the inputs fit, the table is filled
 -- Assumes, of the part, that a series weighs what its parts weigh together.
 use mathlib.Core.Bool.{Bool, true, false}

@@ -1,4 +1,6 @@
 // The table of pairs of states: for each pair the least number of factors that leads from the one to the other, or only whether some series does.
+#![tactic(auto)]
+
 mod closing;
 mod fitting;
 mod nodes;

@@ -1,0 +1,10 @@
+-- The first way is told by its number. Assumes nothing.
+use mathlib.Core.Path.{refl}
+use borrow.Author.Tests.{eq-eqb, ne_eqb}
+use Rattle.items.proofs.shifts.only_one.Goals as goal
+
+pub returns-then-d-eq0 : goal.returns-then-d-eq0
+returns-then-d-eq0 c = rw (eq-eqb _ _ c.if-d-eq0.true) refl
+
+pub returns : goal.returns
+returns c = rw (ne_eqb _ _ c.if-d-eq0.false) refl
