@@ -1,8 +1,8 @@
 -- What the bounded verdict says where there is a product, a relation or another one, and where there is none. For any family, so for signed factors too.
 --     found             a target that a rival reaches is a member, with the first of the least series
---     relation-found    so is a target that is the identity, where there is a relation
---     member-counts     a member counts one factor or more
---     no-factors        with a bound of 0 the verdict is none
+--     relation_found    so is a target that is the identity, where there is a relation
+--     member_counts     a member counts one factor or more
+--     no_factors        with a bound of 0 the verdict is none
 -- Assumes nothing.
 use mathlib.Core.Path.{◌≡◌, refl}
 use mathlib.Core.List.{List, []}

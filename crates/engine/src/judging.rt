@@ -38,10 +38,10 @@ fn decide(
     witness: &mut [u8],
 ) -> Verdict
     ensures { (gens : List Word) (m : ℕ) → ReadyFor gens m count letters.now rests.now children_r.now children_s.now wholes.now form.now
-        → of_sizes m (length form.now) n.0 (length first.entry.now) (length second.old) (length witness.old) ≡ Asked.Passed
+        → of_sizes m (length form.now) n.0 (length first.old) (length second.old) (length witness.old) ≡ Asked.Passed
         → Settled (side m (length form.now)) (plain gens) (word form.now) n.0 result
-        (record { first = first.entry.now; second = second.old; witness = witness.old })
-        (record { first = first.exit.now; second = second.new; witness = witness.new }) }
+        (record { first = first.old; second = second.old; witness = witness.old })
+        (record { first = first.new; second = second.new; witness = witness.new }) }
 {
     verdict_of(search::least(
         form, count, letters, rests, children_r, children_s, wholes, n, first, second, witness,
@@ -66,8 +66,8 @@ pub fn settle(
 ) -> Verdict
     ensures { (gens : List Word) → ReadyFor gens m.0 count letters.now rests.now children_r.now children_s.now wholes.now form.now
         → SettlesForm m.0 gens (word form.now) n.0 result
-        (record { first = first.entry.now; second = second.old; witness = witness.old })
-        (record { first = first.exit.now; second = second.new; witness = witness.new }) }
+        (record { first = first.old; second = second.old; witness = witness.old })
+        (record { first = first.new; second = second.new; witness = witness.new }) }
 {
     if limits::WORD_LETTERS < form.len() {
         return Verdict::Refused(Refusal::TooManyLetters);
@@ -99,8 +99,8 @@ pub(crate) fn judge_form(
     requires { length form.now ≤ most_letters }
     ensures { (gens : List Word) → ReadyFor gens m.0 count letters.now rests.now children_r.now children_s.now wholes.now form.now
         → JudgesForm m.0 gens (word form.now) n.0 result
-        (record { first = first.entry.now; second = second.old; witness = witness.old })
-        (record { first = first.exit.now; second = second.new; witness = witness.new }) }
+        (record { first = first.old; second = second.old; witness = witness.old })
+        (record { first = first.new; second = second.new; witness = witness.new }) }
 {
     let t = form.len() as u16;
     match sizes::of_sizes(m, Letters(t), n, first.len(), second.len(), witness.len()) {

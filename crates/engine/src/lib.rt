@@ -1,4 +1,6 @@
 // The bounded verdict: is the target a product of at most n generators?
+#![tactic(auto)]
+
 pub mod judging;
 
 ghost use Rattle.engine.specs.Calls.{Judges};
@@ -7,7 +9,7 @@ use queries::Posed;
 use words::{Factors, Refusal};
 
 // The verdict: a member with the count of the factors that were written, none, or the refusal.
-#[derive(Drop)]
+#[derive(Clone, Copy)]
 pub enum Verdict {
     Member(Factors),
     None,
@@ -27,8 +29,8 @@ pub fn judge(
     witness: &mut [u8],
 ) -> Verdict
     ensures { Judges bytes.now ends.now target.now n.0 result
-        (record { first = first.entry.now; second = second.old; witness = witness.old })
-        (record { first = first.exit.now; second = second.new; witness = witness.new }) }
+        (record { first = first.old; second = second.old; witness = witness.old })
+        (record { first = first.new; second = second.new; witness = witness.new }) }
 {
     let mut form = [0u8; limits::WORD_LETTERS];
     let mut letters = [0u8; limits::LIST_STATES];

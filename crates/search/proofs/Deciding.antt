@@ -1,6 +1,6 @@
 -- What stands at the end of the last row decides, where counts are laid out as pairs and rows.
---     none-answered       an entry above the bound: none is right
---     written-answered    an entry of at most the bound: what is written is right, and what is not is no list's
+--     none_answered       an entry above the bound: none is right
+--     written_answered    an entry of at most the bound: what is written is right, and what is not is no list's
 -- Assumes that the tables are filled.
 use mathlib.Core.Path.{◌≡◌, refl, sym, ap, subst, ◌∙◌}
 use mathlib.Core.List.{List}

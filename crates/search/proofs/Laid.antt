@@ -1,7 +1,7 @@
 -- Pairs and, behind them, rows from row 1 on, in one list of counts.
---     laid-append    the pairs of one list, and then the rows of another
---     laid-carried   a list of pairs into which rows are carried
---     carried-kept   what stands behind such rows is as it was
+--     laid_append    the pairs of one list, and then the rows of another
+--     laid_carried   a list of pairs into which rows are carried
+--     carried_kept   what stands behind such rows is as it was
 -- Assumes that there is room.
 use mathlib.Core.Path.{◌≡◌, ap, ◌∙◌}
 use mathlib.Core.List.{List, ◌++◌, append_assoc}

@@ -1,5 +1,5 @@
 -- The table and then the rows are filled, and what is known then.
---     rows-used      there is room for the rows where there is for the entries that are used
+--     rows_used      there is room for the rows where there is for the entries that are used
 --     tabulated      what the answer asks for
 --     searched       and what it answers is what the search promises
 --     unsearched     where the inputs do not fit nothing changes

@@ -1,5 +1,7 @@
 // The search for the first of the least series: for the tree of a reduced list and a reduced target the table of pairs and the target's rows are filled,
 // what stands at the end of the last row decides, and the witness is written where there is one.
+#![tactic(auto)]
+
 mod carrying;
 mod fitting;
 
@@ -14,7 +16,7 @@ use witness::Written;
 use words::Factors;
 
 // The first of the least series with its count, none within the bound, or inputs that do not fit.
-#[derive(Drop)]
+#[derive(Clone, Copy)]
 pub enum Found {
     Series(Factors),
     None,
@@ -47,11 +49,11 @@ fn answer(
     witness: &mut [u8],
 ) -> Found
     requires { Tabulated count letters.now rests.now children_r.now children_s.now wholes.now target.now n.0
-        (record { first = first.now; second = second.old; witness = witness.old }) }
+        (record { first = first.old; second = second.old; witness = witness.old }) }
     ensures { Answered count letters.now rests.now children_r.now children_s.now wholes.now
         target.now n.0 result
-        (record { first = first.entry.now; second = second.old; witness = witness.old })
-        (record { first = first.exit.now; second = second.new; witness = witness.new }) }
+        (record { first = first.old; second = second.old; witness = witness.old })
+        (record { first = first.new; second = second.new; witness = witness.new }) }
 {
     if n.0 as usize + 1 <= entry(second, target.len() * count) {
         return Found::None;
@@ -81,8 +83,8 @@ pub fn least(
 ) -> Found
     ensures { Searches count letters.now rests.now children_r.now children_s.now wholes.now
         target.now n.0 result
-        (record { first = first.entry.now; second = second.old; witness = witness.old })
-        (record { first = first.exit.now; second = second.new; witness = witness.new }) }
+        (record { first = first.old; second = second.old; witness = witness.old })
+        (record { first = first.new; second = second.new; witness = witness.new }) }
 {
     if has_room(
         target.len(),

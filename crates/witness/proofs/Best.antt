@@ -1,8 +1,8 @@
 -- The best way so far, and one way more.
---     best-first, best-earlier, best-kept     what is best when the way d is the first candidate, before the best, or not before it
---     candidate-told .. tried-loose           a way whose parts are told is a candidate, or not tight
---     best-further .. looked-through          the ways go on, or end since one decides, or since there are no more
---     none_of, chosen-foremost                no way is tight, or the best of all is chosen
+--     best_first, best_earlier, best_kept     what is best when the way d is the first candidate, before the best, or not before it
+--     candidate_told .. tried_loose           a way whose parts are told is a candidate, or not tight
+--     best_further .. looked_through          the ways go on, or end since one decides, or since there are no more
+--     none_of, chosen_foremost                no way is tight, or the best of all is chosen
 -- Assumes nothing.
 use mathlib.Core.Bool.{Bool, true, false}
 use mathlib.Core.Logic.{inl, inr}

@@ -1,7 +1,7 @@
 -- The ways of an item: there are few, and the parts of a candidate have a series and spell it where they stand alone on a stack.
---     ways-few                       how many ways there are at most
---     way-pushable .. way-spelled    the parts of a candidate, on a stack
---     way-joined                     their series
+--     ways_few                       how many ways there are at most
+--     way_pushable .. way_spelled    the parts of a candidate, on a stack
+--     way_joined                     their series
 -- Assumes nothing.
 use mathlib.Core.Bool.{Bool, true, false}
 use mathlib.Core.Logic.{inl, inr}

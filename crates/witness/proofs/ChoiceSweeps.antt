@@ -1,9 +1,9 @@
 -- A sweep that chooses goes up through the weights, and through the places of each.
---     due-item, due-marked, choosing-steps           the place at which it stands: an item is due, or nothing is
---     choosing-begins                                it begins where all that is wanted is marked
---     chooses_none, chooses-then, chooses-stops      one call after the other, until the sweep stops
---     weight-leaves                                  one weight after the other
---     choosing-ends                                  the target's item is chosen
+--     due_item, due_marked, choosing_steps           the place at which it stands: an item is due, or nothing is
+--     choosing_begins                                it begins where all that is wanted is marked
+--     chooses_none, chooses_then, chooses_stops      one call after the other, until the sweep stops
+--     weight_leaves                                  one weight after the other
+--     choosing_ends                                  the target's item is chosen
 -- Assumes nothing.
 use mathlib.Core.Logic.{inl, inr}
 use mathlib.Core.Bool.{Bool, true, false}

@@ -1,12 +1,12 @@
 -- Two stacks of items, compared by their tops.
---     answers-none, answers-none-other         where one stack is empty the first is not before the second
---     goes-on-first, goes-on-second            one of them is taken apart
---     going-on-none, going-on-then             no step, and a step behind others
---     step_falls, answers-over                 what a step that goes on costs, and what one that does not answers
---     either-some, tells-ltb                   for the tests that are asked of the tops
---     first-on-top, second-on-top              an item on top that is no factor
---     answers-differ                           two factors on top that differ decide
---     goes-on-same                             both drop the same item
+--     answers_none, answers_none_other         where one stack is empty the first is not before the second
+--     goes_on_first, goes_on_second            one of them is taken apart
+--     going_on_none, going_on_then             no step, and a step behind others
+--     step_falls, answers_over                 what a step that goes on costs, and what one that does not answers
+--     either_some, tells_ltb                   for the tests that are asked of the tops
+--     first_on_top, second_on_top              an item on top that is no factor
+--     answers_differ                           two factors on top that differ decide
+--     goes_on_same                             both drop the same item
 -- Assumes nothing.
 use mathlib.Core.Bool.{Bool, true, false, false≢true}
 use mathlib.Core.Path.{◌≡◌, refl, ap, subst}
@@ -14,7 +14,6 @@ use mathlib.Core.List.{List, [], ◌∷◌, ◌++◌}
 use Prim.Native.Nat.{ℕ, ◌+◌, ◌-◌, ◌<◌}
 use native.Mathlib.Omega.{arith}
 use lib.Dec.{ltb}
-use lib.ListN.{length}
 use borrow.Author.Tests.{ltb-true, lt-ltb}
 use Rattle.refusals.specs.Telling.{Tells, pick}
 use Rattle.refusals.proofs.Telling.{tells_same}
@@ -34,10 +33,13 @@ use Rattle.witness.specs.declared.comparing.Tops.TheVariants.{Same, Differ, Firs
 use Rattle.witness.proofs.Stacked.{stacked_top}
 
 -- what stands in front of both does not matter
+before_tails : (i j : ℕ) {r s : List ℕ} → i ≡ j → Before (i ∷ r) (j ∷ s) → Before r s
+before_tails i j same (smaller h) = absurd (omega arith)
+before_tails i j same (further b) = b
+
 before_rest : (p : List ℕ) {r s : List ℕ} → Before (p ++ r) (p ++ s) → Before r s
 before_rest [] b = b
-before_rest (i ∷ p) (smaller h) = absurd (omega arith)
-before_rest (i ∷ p) (further b) = before_rest p b
+before_rest (i ∷ p) b = before_rest p (before_tails i i refl b)
 
 before_heads : (i j : ℕ) {r s : List ℕ} → (i ≡ j → ⊥) → Before (i ∷ r) (j ∷ s) → i < j
 before_heads i j differ (smaller h) = h

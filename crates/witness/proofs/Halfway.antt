@@ -1,8 +1,8 @@
 -- A series that is spelled in part: how it begins, goes on and ends.
---     halfway-start                   an item alone on the stack, and nothing written
---     factor-room, further-factor     the factor on top is written
---     further-apart                   the item on top is taken apart
---     halfway-done                    the stack is empty, and all is written
+--     halfway_start                   an item alone on the stack, and nothing written
+--     factor_room, further_factor     the factor on top is written
+--     further_apart                   the item on top is taken apart
+--     halfway_done                    the stack is empty, and all is written
 -- Assumes nothing.
 use mathlib.Core.Path.{◌≡◌, refl, sym, ap, subst, ◌∙◌}
 use mathlib.Core.List.{List, [], ◌∷◌, ◌++◌, append-nil, append_assoc}

@@ -1,7 +1,7 @@
 -- One item in a sweep that chooses, and places that it passes over.
---     choosing-moves                           the sweep moves on where no marked item is passed over
---     choosing-settled, choosing-done          what is known of the item at which it stands
---     choosing-passes, chooses-one             it passes places at which nothing is due, or chooses for one item
+--     choosing_moves                           the sweep moves on where no marked item is passed over
+--     choosing_settled, choosing_done          what is known of the item at which it stands
+--     choosing_passes, chooses_one             it passes places at which nothing is due, or chooses for one item
 -- Assumes nothing.
 use mathlib.Core.Logic.{inl, inr}
 use mathlib.Core.Bool.{Bool, true, false}

@@ -1,14 +1,14 @@
 -- A sweep that marks goes down through the weights and the places.
---     place-sought                     the item at a place can be sought
---     marks-none, marks_then           it stays, or goes on
---     passes_on, passes-one, marks-on  it passes places at which nothing is due, or marks the item at one
---     weight-begins                    it goes on to the next weight
+--     place_sought                     the item at a place can be sought
+--     marks_none, marks_then           it stays, or goes on
+--     passes_on, passes_one, marks_on  it passes places at which nothing is due, or marks the item at one
+--     weight_begins                    it goes on to the next weight
 --     marking_begins                   it begins where only the target's item is needed
 -- Assumes nothing.
 use mathlib.Core.Logic.{inl, inr}
 use mathlib.Core.Path.{◌≡◌, refl, sym, ap, ap₂, subst, ◌∙◌}
 use mathlib.Core.List.{List}
-use Prim.Native.Nat.{ℕ, suc, ◌+◌, ◌-◌, ◌*◌, ◌≤◌}
+use Prim.Native.Nat.{ℕ, ◌+◌, ◌-◌, ◌*◌, ◌≤◌}
 use native.Mathlib.Decide.{dec_lt, ℕ_discrete}
 use native.Mathlib.Nat.{mul-le-mul}
 use native.Mathlib.Omega.{arith}

@@ -1,9 +1,9 @@
 -- What it does to the choices that items become needed, and that an item is marked.
---     need-factor, need-wanted, need-new    an item that becomes needed, by cases
+--     need_factor, need_wanted, need_new    an item that becomes needed, by cases
 --     grows_none, grows_then                growth composes
---     wanted-more, closed-more, grows-more  what is wanted stays so
---     marks-tight, marks-loose              one way of an item
---     ways-none, ways-more, ways-decided, ways-all    and one after the other, until the item is decided or no way is left
+--     wanted-more, closed_more, grows_more  what is wanted stays so
+--     marks_tight, marks_loose              one way of an item
+--     ways_none, ways_more, ways_decided, ways_all    and one after the other, until the item is decided or no way is left
 -- Assumes nothing.
 use mathlib.Core.Bool.{Bool, true, false, false≢true}
 use mathlib.Core.Logic.{◌⊎◌, inl, inr}

@@ -1,11 +1,11 @@
 -- The numbers of an item that weighs 1 or more.
---     item-low        its first number is no greater than the highest
---     item-entries    both fit in entries
---     item-place      it has a place in the table of choices, where it is no factor
+--     item_low        its first number is no greater than the highest
+--     item_entries    both fit in entries
+--     item_place      it has a place in the table of choices, where it is no factor
 -- Assumes that the list and the target are small.
 use mathlib.Core.Path.{◌≡◌}
 use mathlib.Core.List.{List}
-use Prim.Native.Nat.{ℕ, zero, suc, ◌+◌, ◌-◌, ◌≤◌, ◌<◌}
+use Prim.Native.Nat.{ℕ, zero, suc, ◌-◌, ◌≤◌, ◌<◌}
 use native.Mathlib.Omega.{arith}
 use lib.Arith.{digits_lt}
 use lib.ListN.{length}

@@ -1,6 +1,6 @@
 -- Parts that are tight, on a stack in the place of their item.
---     parts-entries, parts-few    their numbers fit in entries, and they are no more than the item weighs
---     parts-weigh, parts-ready    they weigh what the item does, and can be spelled if they are done
+--     parts_entries, parts_few    their numbers fit in entries, and they are no more than the item weighs
+--     parts_weigh, parts_ready    they weigh what the item does, and can be spelled if they are done
 --     parts_join                  they spell their series
 -- Assumes nothing.
 use mathlib.Core.Path.{◌≡◌}

@@ -1,10 +1,10 @@
 -- Where the choices of items stand: each inside the table, and different items at different places.
---     same-or-other, of-same           two items are compared
---     row-place, item-place                 the choice of an item is one of the cells
+--     same_or_other, of_same           two items are compared
+--     row_place, item_place                 the choice of an item is one of the cells
 --     whole_item                            the target's item is one where it weighs something
---     item-weight, item-swept, lower-place, same_place, stands-row, stands-item    items by their places, which a sweep goes by
---     choice-stored, choice-elsewhere  a choice that is set, and the others
---     keeps-none, keeps_then, keeps-stored, small-kept    what remains while choices are set
+--     item_weight, item_swept, lower_place, same_place, stands_row, stands_item    items by their places, which a sweep goes by
+--     choice_stored, choice_elsewhere  a choice that is set, and the others
+--     keeps_none, keeps_then, keeps_stored, small_kept    what remains while choices are set
 -- Assumes nothing.
 use mathlib.Core.Logic.{◌⊎◌, inl, inr}
 use mathlib.Core.Path.{◌≡◌, refl, sym, ap, subst, ◌∙◌}

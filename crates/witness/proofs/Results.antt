@@ -1,7 +1,7 @@
 -- What is answered, from what was found.
---     room_fits, fits-room       the sizes are asked about
---     writes-series              a series is spelled
---     writes-stuck, writes-unfit     or there is none
+--     room_fits, fits_room       the sizes are asked about
+--     writes_series              a series is spelled
+--     writes_stuck, writes_unfit     or there is none
 --     writes_more                a bound above the weight is as good
 -- Assumes nothing.
 use mathlib.Core.Path.{◌≡◌, refl, subst}

@@ -1,8 +1,8 @@
 -- A stack of items.
---     stacked-push, stacked-top           what a store on top of it makes of it, and what its top is
---     room-one, room-two                  there is room for parts, by how many they are
---     pushed-one, pushed-two, pushed_none the stack with parts on top, by how many they are
---     height-weight                       it is no higher than it weighs
+--     stacked_push, stacked_top           what a store on top of it makes of it, and what its top is
+--     room_one, room_two                  there is room for parts, by how many they are
+--     pushed_one, pushed_two, pushed_none the stack with parts on top, by how many they are
+--     height_weight                       it is no higher than it weighs
 -- Assumes nothing.
 use mathlib.Core.Path.{◌≡◌, refl, sym, ap, subst, ◌∙◌}
 use mathlib.Core.List.{List, [], ◌∷◌, ◌++◌}

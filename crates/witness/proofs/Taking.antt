@@ -1,9 +1,9 @@
 -- The item on top of a stack gives way to its parts in the way that is chosen for it.
 --     Top              what is known of the item on top, which is no factor
---     top-place        it has a place in the table of choices
---     top-coded        a way is chosen for it
---     parts-room       there is room for its parts, and their numbers fit
---     taken-apart      the stack with the parts in its place
+--     top_place        it has a place in the table of choices
+--     top_coded        a way is chosen for it
+--     parts_room       there is room for its parts, and their numbers fit
+--     taken_apart      the stack with the parts in its place
 -- Assumes nothing.
 use mathlib.Core.Path.{◌≡◌, sym, ap, subst, ◌∙◌}
 use mathlib.Core.Logic.{inl, inr}

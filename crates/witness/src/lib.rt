@@ -1,6 +1,8 @@
 // The witness: of the least series that make the target, the first when their numbers are compared from left to right. The counts are known; the choices
 // are made here. Only items that the target's derivations need are looked at: they are marked from the target's item downwards, and then chosen upwards, so
 // that an item is chosen when all its parts are. Two candidates are compared by spelling both at once.
+#![tactic(auto)]
+
 mod choices;
 mod choosing;
 mod comparing;
@@ -24,7 +26,7 @@ use crate::choices::{NEEDED, set_choice};
 use words::Factors;
 
 // The first series, with its count; or inputs that have none.
-#[derive(Drop)]
+#[derive(Clone, Copy)]
 pub enum Written {
     Series(Factors),
     Unfit,
