@@ -1,9 +1,9 @@
 -- What is answered of a field of a card says whether the field is whole, what it holds, and where what stands behind it begins.
---     no_byte, byte-said          a byte
---     no_signed, signed-said      a signed 64-bit number
---     no-letters, letters-said    letters with their length in front
---     no-matrix, matrix-said      a matrix of four numbers
---     no-list, list-said          some generators
+--     no_byte, byte_said          a byte
+--     no_signed, signed_said      a signed 64-bit number
+--     no_letters, letters_said    letters with their length in front
+--     no_matrix, matrix_said      a matrix of four numbers
+--     no_list, list_said          some generators
 -- Assumes nothing.
 use mathlib.Core.Path.{◌≡◌, refl, ap, ◌∙◌}
 use mathlib.Core.List.{List}

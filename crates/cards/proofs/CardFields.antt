@@ -1,8 +1,8 @@
 -- What is answered of a card's bound, target and list says whether the field is whole, what it holds, and where what stands behind it begins.
---     bound-cut-off, bound-stands
---     target-cut-off, target-stands
---     list-cut-off, list-stands, list-fills
---     letters-goal, entries-goal    places of letters, or a matrix, say the target
+--     bound_cut_off, bound_stands
+--     target_cut_off, target_stands
+--     list_cut_off, list_stands, list_fills
+--     letters_goal, entries_goal    places of letters, or a matrix, say the target
 -- Assumes nothing.
 use mathlib.Core.Path.{◌≡◌, refl, sym, ap, ◌∙◌}
 use mathlib.Core.List.{List, []}

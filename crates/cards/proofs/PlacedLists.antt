@@ -1,6 +1,6 @@
 -- Generators that are passed over, one after the other, and the list that they are.
---     one-cut, one-passed, none-remains    the next generator is cut off, or is passed over; or all have been
---     no_number, list-cut, list-whole      a list, from what was answered of its number and of the place behind its generators
+--     one_cut, one_passed, none_remains    the next generator is cut off, or is passed over; or all have been
+--     no_number, list_cut, list_whole      a list, from what was answered of its number and of the place behind its generators
 -- Assumes nothing.
 use mathlib.Core.Path.{◌≡◌, refl, subst}
 use mathlib.Core.List.{List, ◌∷◌}

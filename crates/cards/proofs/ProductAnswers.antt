@@ -9,7 +9,7 @@ use borrow.Author.Tests.{lt-leb}
 use Rattle.limits.specs.Limits.{most_letters, most_of_form}
 use Rattle.words.specs.Word.{Word, Normal, nf}
 use Rattle.words.specs.Bytes.{word, bytes}
-use Rattle.refusals.specs.Questions.{first_no, question14}
+use Rattle.refusals.specs.Questions.{first_no}
 use Rattle.refusals.specs.declared.Refusal.{Refusal}
 use Rattle.refusals.specs.declared.Refusal.TheVariants.{NormalFormTooLong}
 use Rattle.refusals.specs.declared.Asked.{Asked}

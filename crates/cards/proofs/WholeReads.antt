@@ -1,6 +1,6 @@
 -- What holds of a field wherever it is whole, and of what stands behind it.
---     if-whole-next        of one field behind another
---     generators-counted   so many generators are so many words, and what stands behind them is no longer than what they were read from
+--     if_whole_next        of one field behind another
+--     generators_counted   so many generators are so many words, and what stands behind them is no longer than what they were read from
 -- Assumes nothing.
 use mathlib.Core.Path.{◌≡◌, refl, ap}
 use mathlib.Core.Bool.{Bool, true, false}

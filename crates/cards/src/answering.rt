@@ -41,8 +41,8 @@ fn answer_letters(
     requires { SomeListed card.now start count }
     ensures { (list : List (List ℕ)) → Listed card.now start count list
         → AnswersProduct n.0 target.now (word target.now) list result
-        (record { first = first.entry.now; second = second.old; witness = witness.old })
-        (record { first = first.exit.now; second = second.new; witness = witness.new }) }
+        (record { first = first.old; second = second.old; witness = witness.old })
+        (record { first = first.new; second = second.new; witness = witness.new }) }
 {
     let mut letters = [0u8; WORD_LETTERS];
     let mut ends = [0u16; GENERATORS];
@@ -81,8 +81,8 @@ fn answer_matrix(
     requires { SomeListed card.now start count }
     ensures { (list : List (List ℕ)) → Listed card.now start count list
         → AnswersMatrix (of_entries (matrix m)) n.0 (matrix m) list result
-        (record { first = first.entry.now; second = second.old; witness = witness.old })
-        (record { first = first.exit.now; second = second.new; witness = witness.new }) }
+        (record { first = first.old; second = second.old; witness = witness.old })
+        (record { first = first.new; second = second.new; witness = witness.new }) }
 {
     let mut form = [0u8; FORM_ROOM];
     match matrices::matrix_to_word(m, &mut form) {
@@ -127,8 +127,8 @@ fn answer_goal(
     requires goal_is { (target : Target) × GoalIs card.now target goal }
     ensures { (list : List (List ℕ)) (target : Target) → Listed card.now start count list → GoalIs card.now target goal
         → AnswersTarget n.0 target list result
-        (record { first = first.entry.now; second = second.old; witness = witness.old })
-        (record { first = first.exit.now; second = second.new; witness = witness.new }) }
+        (record { first = first.old; second = second.old; witness = witness.old })
+        (record { first = first.new; second = second.new; witness = witness.new }) }
 {
     match goal {
         Goal::Letters(from, end) => answer_letters(
@@ -160,8 +160,8 @@ fn answer_list(
     requires goal_is { (target : Target) × GoalIs card.now target goal }
     ensures { (target : Target) → GoalIs card.now target goal
         → AnswersRead (length card.now) (after_target map n.0 target (drop at card.now)) result
-        (record { first = first.entry.now; second = second.old; witness = witness.old })
-        (record { first = first.exit.now; second = second.new; witness = witness.new }) }
+        (record { first = first.old; second = second.old; witness = witness.old })
+        (record { first = first.new; second = second.new; witness = witness.new }) }
 {
     match reading::list(card, map, at) {
         ListAt::Cut => Answer::Refused(Refusal::FieldCut(card.len())),
@@ -186,8 +186,8 @@ fn answer_target(
 ) -> Answer
     requires { at ≤ length card.now }
     ensures { AnswersRead (length card.now) (after_bound map n.0 (drop at card.now)) result
-        (record { first = first.entry.now; second = second.old; witness = witness.old })
-        (record { first = first.exit.now; second = second.new; witness = witness.new }) }
+        (record { first = first.old; second = second.old; witness = witness.old })
+        (record { first = first.new; second = second.new; witness = witness.new }) }
 {
     match reading::target(card, map, at) {
         TargetAt::Cut => Answer::Refused(Refusal::FieldCut(card.len())),
@@ -207,8 +207,8 @@ pub(crate) fn answer_fields(
 ) -> Answer
     requires { 1 ≤ length card.now }
     ensures { AnswersRead (length card.now) (fields map (drop 1 card.now)) result
-        (record { first = first.entry.now; second = second.old; witness = witness.old })
-        (record { first = first.exit.now; second = second.new; witness = witness.new }) }
+        (record { first = first.old; second = second.old; witness = witness.old })
+        (record { first = first.new; second = second.new; witness = witness.new }) }
 {
     match reading::bound(card, map) {
         BoundAt::Cut => Answer::Refused(Refusal::FieldCut(card.len())),

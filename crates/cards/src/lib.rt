@@ -1,4 +1,6 @@
 // The query card: one slice of bytes that says a bound, a target and a list. It is read, its questions are put, and it is answered.
+#![tactic(auto)]
+
 mod answering;
 mod flattening;
 mod reading;
@@ -12,8 +14,8 @@ use words::Refusal;
 // Answers a card of any length and content. The tables and the witness are lent as to the engine.
 pub fn answer_card(card: &[u8], first: &mut [u16], second: &mut [u16], witness: &mut [u8]) -> Answer
     ensures { AnswersCard card.now result
-        (record { first = first.entry.now; second = second.old; witness = witness.old })
-        (record { first = first.exit.now; second = second.new; witness = witness.new }) }
+        (record { first = first.old; second = second.old; witness = witness.old })
+        (record { first = first.new; second = second.new; witness = witness.new }) }
 {
     if CARD_BYTES < card.len() {
         return Answer::Refused(Refusal::CardTooLong);

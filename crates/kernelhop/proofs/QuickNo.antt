@@ -2,7 +2,7 @@
 -- the unbounded one is no, or refused. 02, M-106: "Whenever it is given, the bounded and unbounded verdicts, where they aren't refused, are none as well, for
 -- every n." All of it is said of the calls' contracts.
 -- Assumes nothing.
-use mathlib.Core.Path.{◌≡◌, refl}
+use mathlib.Core.Path.{◌≡◌}
 use mathlib.Core.List.{List}
 use Prim.Native.Nat.{ℕ}
 use native.Mathlib.Omega.{arith}
@@ -10,7 +10,6 @@ use lib.ListN.{length}
 use Rattle.words.specs.Word.{Word, nf}
 use Rattle.words.specs.Bytes.{word}
 use Rattle.words.specs.declared.Factors.{Factors}
-use Rattle.refusals.specs.declared.Refusal.{Refusal}
 use Rattle.refusals.specs.declared.Asked.{Asked}
 use Rattle.refusals.specs.declared.Asked.TheVariants.{Passed, Refused}
 use Rattle.products.specs.Product.{generators, Family, plain, signed, with_inverses, NoneRight, NoRight}
@@ -21,16 +20,15 @@ use Rattle.lists.specs.NormalList.{total}
 use Rattle.sizes.specs.Questions.{side}
 use Rattle.engine.specs.Questions.{of_product}
 use Rattle.engine.specs.Calls.{Lent, Judged, Judges}
-use Rattle.engine.specs.declared.Verdict.{Verdict}
-use Rattle.engine.specs.declared.Verdict.TheVariants.{Member, None, Refused as Verdict-as-Refused}
+use Rattle.engine.specs.declared.Verdict.TheVariants.{Member}
 use Rattle.subgroups.specs.Questions.{of_signed}
 use Rattle.subgroups.specs.Calls.{JudgesSigned}
 use Rattle.reach.specs.Questions.{of_reachable}
 use Rattle.reach.specs.Calls.{Lent as Reach-as-Lent, ReachedBy, Reaches}
-use Rattle.reach.specs.declared.Reached.TheVariants.{Yes, Refused as Reached-as-Refused}
+use Rattle.reach.specs.declared.Reached.TheVariants.{Yes}
 use Rattle.quick.specs.Questions.{of_quick}
 use Rattle.quick.specs.Calls.{AnsweredBy, Answers}
-use Rattle.quick.specs.declared.Quick.TheVariants.{No, Refused as Quick-as-Refused}
+use Rattle.quick.specs.declared.Quick.TheVariants.{No}
 
 -- a no is right: it is no refusal
 answered_no : (asked : Asked) (gens : List Word) (target : Word) → AnsweredBy asked gens target No → QuickNoRight (plain gens) target

@@ -1,4 +1,6 @@
 // The calls for programs in other languages, which link the static library of this crate. A slice is a pointer and a length there.
+#![tactic(auto)]
+
 mod telling;
 
 ghost use Rattle.std.specs.Prelude.{◌≡◌, length};
@@ -28,7 +30,7 @@ use words::Factors;
 // An answer: 0, and the length written, 1 for a normal word and 0 for another, the count of a member, 1 for a target that is reachable, or 0 for a matrix.
 // None: 255, and n; not reachable, or the quick no: 255, and 0; open: 254, and 0. A refusal: the question's number, from 1 to 16, and its place.
 #[repr(C)]
-#[derive(Drop)]
+#[derive(Clone, Copy)]
 pub struct Outcome {
     pub number: u8,
     pub value: usize,
@@ -36,7 +38,7 @@ pub struct Outcome {
 
 // An answer of reduction: 0, the length written, and how many pairs RR and triples SSS went. A refusal: the question's number, its place, and 0 for both.
 #[repr(C)]
-#[derive(Drop)]
+#[derive(Clone, Copy)]
 pub struct Reduction {
     pub number: u8,
     pub pairs: u16,
@@ -46,7 +48,7 @@ pub struct Reduction {
 
 // The letters of a factor: from `start` up to `end` of the given slice where `inverse` is 0, and of the inverse slice where it is 1.
 #[repr(C)]
-#[derive(Drop)]
+#[derive(Clone, Copy)]
 pub struct Part {
     pub inverse: u8,
     pub start: u16,
@@ -134,8 +136,8 @@ pub extern "C" fn kernelhop_judge(
 ) -> Outcome
     ensures { (v : Verdict)
         × Judges bytes.now ends.now target.now n v
-        (record { first = first.entry.now; second = second.old; witness = witness.old })
-        (record { first = first.exit.now; second = second.new; witness = witness.new })
+        (record { first = first.old; second = second.old; witness = witness.old })
+        (record { first = first.new; second = second.new; witness = witness.new })
         × (result ≡ of_verdict (record { 0 = n }) v) }
 {
     telling::verdict(
@@ -158,8 +160,8 @@ pub extern "C" fn kernelhop_judge_subgroup(
 ) -> Outcome
     ensures { (v : Verdict)
         × JudgesSigned bytes.now ends.now target.now n v
-        (record { first = first.entry.now; second = second.old; witness = witness.old })
-        (record { first = first.exit.now; second = second.new; witness = witness.new })
+        (record { first = first.old; second = second.old; witness = witness.old })
+        (record { first = first.new; second = second.new; witness = witness.new })
         inverses.old inverses.new
         × (result ≡ of_verdict (record { 0 = n }) v) }
 {
@@ -202,8 +204,8 @@ pub extern "C" fn kernelhop_reachable(
 ) -> Outcome
     ensures { (v : Reached)
         × Reaches bytes.now ends.now target.now v
-        (record { first = first.entry.now; second = second.old })
-        (record { first = first.exit.now; second = second.new })
+        (record { first = first.old; second = second.old })
+        (record { first = first.new; second = second.new })
         × (result ≡ of_reached v) }
 {
     telling::reached(reach::reachable(bytes, ends, target, first, second))
@@ -227,8 +229,8 @@ pub extern "C" fn kernelhop_answer_card(
 ) -> Outcome
     ensures { (v : Answer)
         × AnswersCard card.now v
-        (record { first = first.entry.now; second = second.old; witness = witness.old })
-        (record { first = first.exit.now; second = second.new; witness = witness.new })
+        (record { first = first.old; second = second.old; witness = witness.old })
+        (record { first = first.new; second = second.new; witness = witness.new })
         × (result ≡ of_answer v) }
 {
     telling::card(cards::answer_card(card, first, second, witness))

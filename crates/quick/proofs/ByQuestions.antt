@@ -1,6 +1,6 @@
 -- An answer by what the questions say. Assumes nothing.
-use mathlib.Core.Path.{◌≡◌, refl, sym, subst, ◌∙◌}
-use mathlib.Core.List.{List, [], ◌∷◌}
+use mathlib.Core.Path.{◌≡◌, refl, sym, subst}
+use mathlib.Core.List.{List, ◌∷◌}
 use Rattle.words.specs.Word.{Word}
 use Rattle.refusals.specs.Questions.{first_no}
 use Rattle.refusals.specs.declared.Refusal.{Refusal}

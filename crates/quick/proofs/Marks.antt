@@ -1,12 +1,12 @@
 -- Marks and the queue.
---     grown-none, grown-then      marks and the front of the queue stay, over any number of steps
---     room-left                   while a mark is not set there is room in the queue
---     visit-new, visit-known      an image is marked and put behind the queue, or stands there
+--     grown_none, grown_then      marks and the front of the queue stay, over any number of steps
+--     room_left                   while a mark is not set there is room in the queue
+--     visit_new, visit_known      an image is marked and put behind the queue, or stands there
 -- Assumes nothing.
 use mathlib.Core.Logic.{◌⊎◌, inl, inr}
 use mathlib.Core.Path.{◌≡◌, refl, sym, ap, subst, ◌∙◌}
 use mathlib.Core.List.{List, [], ◌∷◌}
-use Prim.Native.Nat.{ℕ, zero, suc, ◌+◌, ◌≤◌, ◌<◌}
+use Prim.Native.Nat.{ℕ, zero, suc, ◌+◌, ◌<◌}
 use native.Mathlib.Nat.{not-suc-le-zero, le_of_suc-le-suc}
 use native.Mathlib.Decide.{dec_lt, ℕ_discrete}
 use native.Mathlib.Omega.{arith}

@@ -1,16 +1,14 @@
 -- The products of the images in the queue are marked, one image after the other.
---     spreads-none, spreads-more      of one image in the queue, by one image taken in after the other
---     Passing, passing-more           of the first images in the queue
---     passed-closed                   of all of them: then the marks are closed
+--     spreads_none, spreads_more      of one image in the queue, by one image taken in after the other
+--     Passing, passing_more           of the first images in the queue
+--     passed_closed                   of all of them: then the marks are closed
 -- Assumes nothing.
-use mathlib.Core.Bool.{Bool, true, false}
 use mathlib.Core.Logic.{◌⊎◌, inl, inr}
-use mathlib.Core.Path.{◌≡◌, refl, sym, ap, subst, ◌∙◌}
+use mathlib.Core.Path.{◌≡◌, subst, ◌∙◌}
 use mathlib.Core.List.{List}
-use Prim.Native.Nat.{ℕ, suc, ◌+◌, ◌-◌, ◌≤◌, ◌<◌}
+use Prim.Native.Nat.{ℕ, ◌+◌, ◌≤◌, ◌<◌}
 use native.Mathlib.Decide.{dec_lt}
 use native.Mathlib.Omega.{arith}
-use lib.Dec.{ltb}
 use lib.ListN.{get_or}
 use borrow.Author.Tests.{lt-ltb, le-ltb}
 use Rattle.residues.specs.Residues.{multiplied}

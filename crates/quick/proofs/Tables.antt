@@ -1,9 +1,9 @@
 -- The constant tables.
---     products-right                                 the products have 02's rule, at all entries
---     parent-small, last-letter-small, parent-before   the tree: each is the product of one that comes before it with a letter
---     child-of-rank, root-of-rank, rank-small          and every matrix is in it
+--     products_right                                 the products have 02's rule, at all entries
+--     parent_small, last_letter_small, parent_before   the tree: each is the product of one that comes before it with a letter
+--     child_of_rank, root_of_rank, rank_small          and every matrix is in it
 -- What is computed are three tests, one over each table. Assumes nothing.
-use mathlib.Core.Bool.{Bool, true, false}
+use mathlib.Core.Bool.{Bool}
 use mathlib.Core.Path.{◌≡◌, refl, sym, ap, subst, ◌∙◌}
 use mathlib.Core.List.{List, [], ◌∷◌, flat_map}
 use Prim.Native.Nat.{ℕ, zero, suc, ◌+◌, ◌*◌, ◌-◌, ◌≤◌, ◌<◌, ◌/◌, ◌%◌}

@@ -1,9 +1,9 @@
 -- One image more is taken in, or is a product already.
 -- Assumes nothing.
 use mathlib.Core.Logic.{◌⊎◌, inl, inr}
-use mathlib.Core.Path.{◌≡◌, refl, sym, ap, subst, ◌∙◌}
+use mathlib.Core.Path.{◌≡◌, refl, sym, ap, ◌∙◌}
 use mathlib.Core.List.{List}
-use Prim.Native.Nat.{ℕ, suc, ◌+◌, ◌*◌, ◌≤◌, ◌<◌}
+use Prim.Native.Nat.{ℕ, ◌+◌, ◌*◌, ◌≤◌, ◌<◌}
 use native.Mathlib.Decide.{dec_lt}
 use native.Mathlib.Omega.{arith}
 use lib.Dec.{lit<}
@@ -14,7 +14,7 @@ use Rattle.residues.specs.Residues.{image, multiplied}
 use Rattle.residues.specs.Made.{Made, one}
 use Rattle.residues.proofs.Closing.{made_more}
 use Rattle.quick.specs.Table.{Fills}
-use Rattle.quick.specs.Closing.{act, RowsRight, Seen, Marked, Grown, Visits, AllMade, OldUsed, ClosedUnless, Closes, Held, TakesIn}
+use Rattle.quick.specs.Closing.{act, RowsRight, Seen, Marked, Grown, Visits, OldUsed, Closes, Held, TakesIn}
 use Rattle.quick.specs.declared.closing.Sizes.{Sizes}
 use Rattle.quick.proofs.Marks.{grown_then}
 use Rattle.quick.proofs.Filling.{times_unit}

@@ -1,4 +1,6 @@
 // The quick answer: does the list fail to make the target already modulo 7?
+#![tactic(auto)]
+
 mod closing;
 mod deciding;
 mod table;
@@ -9,7 +11,7 @@ use words::{Asked, Refusal};
 
 // No: no product of the list's generators is the target, of however many factors, since none is modulo 7. Open: there is one modulo 7, and the verdicts have
 // to be asked.
-#[derive(Drop)]
+#[derive(Clone, Copy)]
 pub enum Quick {
     No,
     Open,

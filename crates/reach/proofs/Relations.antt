@@ -1,7 +1,7 @@
 -- What the unbounded verdict says where there is a product, a relation or another one, and where there is none.
---     product-yes          yes, for a target that a rival reaches, whatever the bound
---     vanishing-yes        so for an empty target of a list with a generator that vanishes
---     empty-list-no        no, for every target of an empty list, the empty one as well
+--     product_yes          yes, for a target that a rival reaches, whatever the bound
+--     vanishing_yes        so for an empty target of a list with a generator that vanishes
+--     empty_list_no        no, for every target of an empty list, the empty one as well
 -- Assumes nothing.
 use mathlib.Core.Path.{◌≡◌, refl}
 use mathlib.Core.List.{List, [], ◌∷◌}

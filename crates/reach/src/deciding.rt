@@ -41,10 +41,10 @@ fn decide(
     requires count_le_most_states { count ≤ most_states }
     requires form_len_bound { length form.now ≤ most_letters }
     ensures { (gens : List Word) (m : ℕ) → ReadyFor gens m count letters.now rests.now children_r.now children_s.now wholes.now form.now
-        → of_room m (length form.now) (length first.entry.now) (length second.old) ≡ Asked.Passed
+        → of_room m (length form.now) (length first.old) (length second.old) ≡ Asked.Passed
         → Decides (side m (length form.now)) gens (word form.now) result
-        (record { first = first.entry.now; second = second.old })
-        (record { first = first.exit.now; second = second.new }) }
+        (record { first = first.old; second = second.old })
+        (record { first = first.new; second = second.new }) }
 {
     tables::close(count, letters, rests, children_r, children_s, wholes, first);
     rows::fill(
@@ -80,8 +80,8 @@ pub(crate) fn reach_form(
     requires form_len_bound { length form.now ≤ most_letters }
     ensures { (gens : List Word) → ReadyFor gens m.0 count letters.now rests.now children_r.now children_s.now wholes.now form.now
         → ReachesForm m.0 gens (word form.now) result
-        (record { first = first.entry.now; second = second.old })
-        (record { first = first.exit.now; second = second.new }) }
+        (record { first = first.old; second = second.old })
+        (record { first = first.new; second = second.new }) }
 {
     let t = form.len() as u16;
     match of_room(m, Letters(t), first.len(), second.len()) {

@@ -1,4 +1,6 @@
 // The verdict without a bound: is the target a product of generators, of however many?
+#![tactic(auto)]
+
 mod deciding;
 
 ghost use Rattle.reach.specs.Calls.{Reaches};
@@ -7,7 +9,7 @@ use queries::Posed;
 use words::Refusal;
 
 // The verdict: yes, no, or the refusal.
-#[derive(Drop)]
+#[derive(Clone, Copy)]
 pub enum Reached {
     Yes,
     No,
@@ -24,8 +26,8 @@ pub fn reachable(
     second: &mut [u16],
 ) -> Reached
     ensures { Reaches bytes.now ends.now target.now result
-        (record { first = first.entry.now; second = second.old })
-        (record { first = first.exit.now; second = second.new }) }
+        (record { first = first.old; second = second.old })
+        (record { first = first.new; second = second.new }) }
 {
     let mut form = [0u8; limits::WORD_LETTERS];
     let mut letters = [0u8; limits::LIST_STATES];

@@ -1,11 +1,11 @@
 -- Where the letters of a factor stand, and what they spell.
---     inverse-start, inverse-end          where an inverse's form begins and ends, by the ends of the list with its inverses behind it
---     given-rises, given-within           a given generator between its ends
---     inverse-rises, inverse-within       an inverse between its own
---     given-spells, inverse-spells        what stands there
+--     inverse_start, inverse_end          where an inverse's form begins and ends, by the ends of the list with its inverses behind it
+--     given_rises, given_within           a given generator between its ends
+--     inverse_rises, inverse_within       an inverse between its own
+--     given_spells, inverse_spells        what stands there
 -- Assumes nothing.
 use mathlib.Core.Path.{◌≡◌, refl, sym, ap, ap₂, ◌∙◌}
-use mathlib.Core.List.{List, [], ◌∷◌, ◌++◌, map}
+use mathlib.Core.List.{List, [], ◌∷◌, ◌++◌}
 use Prim.Native.Nat.{ℕ, zero, suc, ◌+◌, ◌-◌, ◌≤◌, ◌<◌}
 use native.Mathlib.Nat.{not-suc-le-zero, le_of_suc-le-suc, zero-add, suc-add, add_assoc}
 use native.Mathlib.Omega.{arith}

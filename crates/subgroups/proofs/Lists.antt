@@ -1,11 +1,11 @@
 -- What reducing a list with its inverses leaves in the slices: the list twice, and the inverses' forms behind the given ones. Assumes nothing.
 use mathlib.Core.Path.{◌≡◌, refl, sym, ap, subst₂, ◌∙◌}
-use mathlib.Core.List.{List, [], ◌∷◌, ◌++◌}
-use Prim.Native.Nat.{ℕ, ◌+◌, ◌-◌, ◌*◌, ◌≤◌}
+use mathlib.Core.List.{List, [], ◌∷◌}
+use Prim.Native.Nat.{ℕ, ◌-◌, ◌*◌, ◌≤◌}
 use native.Mathlib.Omega.{arith}
 use lib.ListN.{length, take, drop, length-drop}
 use lib.Seq.{length-take-le, take_all, drop_at}
-use Rattle.limits.specs.Limits.{most_generators, most_signed_generators, most_of_signed_list, inverses_slice}
+use Rattle.limits.specs.Limits.{most_generators, most_signed_generators, most_of_signed_list}
 use Rattle.words.specs.Word.{Word}
 use Rattle.words.specs.declared.Letters.{Letters}
 use Rattle.refusals.specs.Questions.{question14}

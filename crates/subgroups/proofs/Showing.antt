@@ -1,16 +1,16 @@
 -- Which part a number shows, by the questions and the tests on the way; that it lies inside its slice, and what it spells. Assumes nothing.
-use mathlib.Core.Bool.{Bool, true, false}
+use mathlib.Core.Bool.{Bool}
 use mathlib.Core.Path.{◌≡◌, refl, sym, ap, subst, ◌∙◌}
 use mathlib.Core.List.{List, [], ◌∷◌}
-use Prim.Native.Nat.{ℕ, suc, ◌+◌, ◌-◌, ◌≤◌, ◌<◌}
+use Prim.Native.Nat.{ℕ, ◌+◌, ◌-◌, ◌≤◌, ◌<◌}
 use native.Mathlib.Decide.{dec_lt}
 use native.Mathlib.Omega.{arith}
 use denote.Ref.{Bor}
 use lib.Dec.{leb, ltb}
-use lib.ListN.{length, take, drop, get_or}
+use lib.ListN.{length}
 use borrow.Author.Tests.{lt-ltb, le-ltb, leb-true}
-use Rattle.limits.specs.Limits.{most_generators, most_signed_generators, most_of_signed_list, inverses_slice}
-use Rattle.words.specs.Word.{Word, nf, inverse}
+use Rattle.limits.specs.Limits.{most_signed_generators, most_of_signed_list, inverses_slice}
+use Rattle.words.specs.Word.{Word}
 use Rattle.words.specs.Bytes.{word}
 use Rattle.refusals.specs.Telling.{pick}
 use Rattle.refusals.specs.Questions.{first_no, question14}
@@ -18,11 +18,11 @@ use Rattle.refusals.specs.declared.Refusal.{Refusal}
 use Rattle.refusals.specs.declared.Refusal.TheVariants.{OutputTooShort}
 use Rattle.refusals.specs.declared.Asked.{Asked}
 use Rattle.refusals.specs.declared.Asked.TheVariants.{Passed, Refused}
-use Rattle.refusals.proofs.Asking.{passed_not_refused, asks_passed, passed_first, refused_first, first_no_one, first_no_head, first_no_tail}
-use Rattle.products.specs.Product.{generators, generator, Factor, inverse_mark, unsigned, inverses}
+use Rattle.refusals.proofs.Asking.{asks_passed, passed_first, refused_first, first_no_one, first_no_head, first_no_tail}
+use Rattle.products.specs.Product.{generators, inverse_mark, inverses}
 use Rattle.products.proofs.Generators.{generators_length}
 use Rattle.lists.specs.Questions.{of_list, question11}
-use Rattle.lists.specs.NormalList.{total, normal_bytes}
+use Rattle.lists.specs.NormalList.{total}
 use Rattle.lists.specs.Reducing.{Checked}
 use Rattle.lists.specs.Calls.{ReducesSigned}
 use Rattle.lists.specs.declared.Signed.{Signed}

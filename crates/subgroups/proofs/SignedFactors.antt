@@ -6,14 +6,12 @@ use native.Mathlib.Numerals.{add-one}
 use native.Mathlib.Decide.{dec_lt}
 use native.Mathlib.Omega.{arith}
 use borrow.Author.Tests.{lt-ltb, le-ltb, le-leb, lt-leb}
-use lib.Dec.{ltb}
 use lib.ListN.{length, take, drop, get_or, set, length-map, length-take, drop_of_length-le}
 use lib.Seq.{length-take-le, take-suc, take_all, take_at, drop_at, get_or-append-add, get_or-drop}
-use Rattle.refusals.specs.Telling.{pick}
 use Rattle.slices.specs.Slices.{overwritten}
 use Rattle.slices.proofs.Slices.{front_stored}
 use Rattle.words.specs.Word.{Word}
-use Rattle.products.specs.Product.{Factor, Each, plain, signed, inverse_mark, with_inverses, NoneRight, MemberRight}
+use Rattle.products.specs.Product.{Factor, Each, plain, signed, inverse_mark, with_inverses}
 use Rattle.products.specs.Doubled.{signed_number}
 use Rattle.products.proofs.Doubled.{doubled_length, signed_none_of, signed_member_of}
 use Rattle.engine.specs.Calls.{VerdictRight}

@@ -8,7 +8,6 @@ use lib.ListN.{length}
 use Rattle.slices.specs.Slices.{overwritten, Pastes}
 use Rattle.slices.proofs.Slices.{pasted_front}
 use Rattle.words.specs.Word.{Word, nf}
-use Rattle.words.specs.Calls.{written}
 use Rattle.refusals.specs.declared.Refusal.{Refusal}
 use Rattle.refusals.specs.declared.Asked.{Asked}
 use Rattle.refusals.specs.declared.Asked.TheVariants.{Passed, Refused}

@@ -2,10 +2,9 @@
 use Rattle.std.specs.Prelude.{◌≡◌, List, [], ◌∷◌, ℕ, ◌-◌, ◌≤◌, length, take, drop}
 use Rattle.limits.specs.Limits.{most_generators, inverses_slice}
 use Rattle.words.specs.Word.{Word, nf}
-use Rattle.words.specs.Bytes.{word}
 use Rattle.refusals.specs.Questions.{first_no}
 use Rattle.refusals.specs.declared.Asked.{Asked}
-use Rattle.products.specs.Product.{generators, inverses, with_inverses}
+use Rattle.products.specs.Product.{inverses, with_inverses}
 use Rattle.lists.specs.Questions.{question11}
 use Rattle.lists.specs.NormalList.{total, normal_bytes, normal_ends}
 use Rattle.engine.specs.Calls.{Lent}

@@ -1,5 +1,5 @@
 -- The letters of a signed factor, as a part of the given slice or of the inverse slice. Document 02, M-103. Assumes nothing: these are definitions.
-use Rattle.std.specs.Prelude.{Bool, true, false, ◌≡◌, List, ◌∷◌, ℕ, suc, ◌+◌, ◌-◌, ◌≤◌, ◌<◌, ltb, length, take, drop, get_or}
+use Rattle.std.specs.Prelude.{true, false, ◌≡◌, List, ◌∷◌, ℕ, suc, ◌+◌, ◌-◌, ◌≤◌, ◌<◌, ltb, length, take, drop, get_or}
 use Rattle.std.specs.Borrow.{Bor}
 use Rattle.words.specs.Word.{Word, nf, inverse}
 use Rattle.words.specs.Bytes.{word}

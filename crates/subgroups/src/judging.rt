@@ -44,8 +44,8 @@ fn judge_form(
         → ReadyFor (map nf (with_inverses gens)) m.0 count letters.now rests.now children_r.now children_s.now wholes.now form.now
         → m.0 ≡ total (with_inverses gens) → word form.now ≡ nf target → InverseForms gens forms.now generators
         → JudgesSizes gens target n.0 result
-        (record { first = first.entry.now; second = second.old; witness = witness.old })
-        (record { first = first.exit.now; second = second.new; witness = witness.new })
+        (record { first = first.old; second = second.old; witness = witness.old })
+        (record { first = first.new; second = second.new; witness = witness.new })
         inverses.old inverses.new }
 {
     let t = form.len() as u16;
@@ -89,8 +89,8 @@ fn judge_reduced(
     requires target_value { of_letters target.now ≡ Asked.Passed }
     ensures { (gens : List Word) → Doubled gens list_letters.now list_ends.now given generators
         → JudgesSizes gens (word target.now) n.0 result
-        (record { first = first.entry.now; second = second.old; witness = witness.old })
-        (record { first = first.exit.now; second = second.new; witness = witness.new })
+        (record { first = first.old; second = second.old; witness = witness.old })
+        (record { first = first.new; second = second.new; witness = witness.new })
         inverses.old inverses.new }
 {
     let mut form = [0u8; limits::WORD_LETTERS];
@@ -144,8 +144,8 @@ pub(crate) fn judge_list(
 ) -> Verdict
     requires { of_list bytes.now ends.now target.now ≡ Asked.Passed }
     ensures { JudgesList (generators bytes.now ends.now) (word target.now) n.0 result
-        (record { first = first.entry.now; second = second.old; witness = witness.old })
-        (record { first = first.exit.now; second = second.new; witness = witness.new })
+        (record { first = first.old; second = second.old; witness = witness.old })
+        (record { first = first.new; second = second.new; witness = witness.new })
         inverses.old inverses.new }
 {
     let mut list_letters = [0u8; limits::SIGNED_ROOM];

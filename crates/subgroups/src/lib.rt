@@ -1,4 +1,6 @@
 // Lists taken as subgroups: a factor may be a generator or its inverse. The signed verdict, and the letters of a signed factor.
+#![tactic(auto)]
+
 mod asking;
 mod judging;
 mod parts;
@@ -13,7 +15,7 @@ use slices::widening::wide;
 use words::{Asked, Factors};
 
 // Which letters a factor has: from `start` up to `end` of the inverses' or, where it is none, of the given ones.
-#[derive(Drop)]
+#[derive(Clone, Copy)]
 pub struct Part {
     pub inverse: bool,
     pub start: u16,
@@ -34,8 +36,8 @@ pub fn judge(
     inverses: &mut [u8],
 ) -> Verdict
     ensures { JudgesSigned bytes.now ends.now target.now n.0 result
-        (record { first = first.entry.now; second = second.old; witness = witness.old })
-        (record { first = first.exit.now; second = second.new; witness = witness.new })
+        (record { first = first.old; second = second.old; witness = witness.old })
+        (record { first = first.new; second = second.new; witness = witness.new })
         inverses.old inverses.new }
 {
     match lists::of_list(bytes, ends, target) {
