@@ -1,6 +1,12 @@
 // Query cards on standard input, each behind its length (16 bits, the low byte first), and one line for each on standard output. What it must
 // print stands in `stdout`; both files are made by trials/make_cards, which says what each card tries.
+#![tactic(auto)]
+
 ghost use Rattle.std.specs.Prelude.{◌≡◌, ◌+◌, ◌*◌};
+
+use showing::Printed;
+use std::io;
+use std::io::{ErrorKind, Read, Write};
 
 // What the program `verdict` lends.
 const ENTRIES: usize = 16384;
@@ -14,12 +20,15 @@ const LONGEST: usize = 65535;
 const CARDS: usize = 10000;
 
 // Answers a card over tables and a witness that are full of other numbers.
-fn print_answer(card: &[u8]) {
+fn print_answer(output: &mut impl Write, card: &[u8]) -> io::Result<()> {
     let mut first = [65535u16; ENTRIES];
     let mut second = [65535u16; ENTRIES];
     let mut witness = [255u8; FACTORS];
     let answer = cards::answer_card(card, &mut first, &mut second, &mut witness);
-    showing::line(answer, &witness);
+    match showing::line(output, answer, &witness) {
+        Printed::Whole | Printed::FactorsMissing | Printed::TooLong => Ok(()),
+        Printed::Failed(error) => Err(error),
+    }
 }
 
 // A number of two bytes.
@@ -29,28 +38,40 @@ fn number(low: u8, high: u8) -> usize
     low as usize + 256 * (high as usize)
 }
 
+// Fills the room. False where the input ends before.
+fn fill(input: &mut impl Read, room: &mut [u8]) -> io::Result<bool> {
+    match input.read_exact(room) {
+        Ok(()) => Ok(true),
+        Err(error) if error.kind() == ErrorKind::UnexpectedEof => Ok(false),
+        Err(error) => Err(error),
+    }
+}
+
 // Reads a card into the front of `card` and answers it. False where the input ends before, or there is no room.
-fn next(card: &mut [u8]) -> bool {
+fn next(input: &mut impl Read, output: &mut impl Write, card: &mut [u8]) -> io::Result<bool> {
     let mut size = [0u8; 2];
-    if io::read_full(0, &mut size) < 2 {
-        return false;
+    if !fill(input, &mut size)? {
+        return Ok(false);
     }
     let len = number(size[0], size[1]);
     if card.len() < len {
-        return false;
+        return Ok(false);
     }
-    if io::read_full(0, &mut card[..len]) < len {
-        return false;
+    if !fill(input, &mut card[..len])? {
+        return Ok(false);
     }
-    print_answer(&card[..len]);
-    true
+    print_answer(output, &card[..len])?;
+    Ok(true)
 }
 
-fn main() {
+fn main(rt: HostRuntime) -> io::Result<()> {
+    let input = &mut rt.stdin();
+    let output = &mut rt.stdout();
     let mut card = [0u8; LONGEST];
     for _ in 0..CARDS {
-        if !next(&mut card) {
-            return;
+        if !next(input, output, &mut card)? {
+            return Ok(());
         }
     }
+    Ok(())
 }

@@ -1,11 +1,16 @@
 // Document 01's worked values and edges of the bounded verdict, one call to a line: the list's letters and ends, the target and n; the
 // verdict; of each table, which was full of 65,535, how many entries are 0 and how many are still full; of the witness, which was full of
 // 255, the first bytes and how many are still full. What it must print stands in `stdout`.
+#![tactic(auto)]
+
 mod printing;
 
+ghost use Rattle.std.specs.Prelude.{IfOk};
 ghost use Rattle.engine.specs.Calls.{Judges};
 
 use engine::Verdict;
+use std::io;
+use std::io::Write;
 use words::Factors;
 
 // Enough for q up to 20, and for the largest q of all: 320 letters, a target of 80.
@@ -36,6 +41,7 @@ const LETTERS: usize = 4096;
 const TOO_MANY_LETTERS: usize = 4097;
 
 fn judge(
+    output: &mut impl Write,
     bytes: &[u8],
     ends: &[u16],
     target: &[u8],
@@ -43,26 +49,33 @@ fn judge(
     first: &mut [u16],
     second: &mut [u16],
     witness: &mut [u8],
-) -> Verdict
-    ensures { Judges bytes.now ends.now target.now n result
-        (record { first = first.entry.now; second = second.old; witness = witness.old })
-        (record { first = first.exit.now; second = second.new; witness = witness.new }) }
+) -> io::Result<Verdict>
+    ensures { IfOk result (λ verdict. Judges bytes.now ends.now target.now n verdict
+        (record { first = first.old; second = second.old; witness = witness.old })
+        (record { first = first.new; second = second.new; witness = witness.new })) }
 {
-    showing::lists::call(bytes, ends, target, n);
+    showing::lists::call(output, bytes, ends, target, n)?;
     let verdict = engine::judge(bytes, ends, target, Factors(n), first, second, witness);
-    printing::verdict(verdict);
-    showing::lent::table(first);
-    showing::lent::table(second);
-    showing::lent::witness(witness);
-    io::write_all(1, b"\n");
-    verdict
+    printing::verdict(output, verdict)?;
+    showing::lent::table(output, first)?;
+    showing::lent::table(output, second)?;
+    showing::lent::witness(output, witness)?;
+    writeln!(output)?;
+    Ok(verdict)
 }
 
-fn small(bytes: &[u8], ends: &[u16], target: &[u8], n: u16) {
+fn small(
+    output: &mut impl Write,
+    bytes: &[u8],
+    ends: &[u16],
+    target: &[u8],
+    n: u16,
+) -> io::Result<()> {
     let mut first = [65535u16; TABLE];
     let mut second = [65535u16; TABLE];
     let mut witness = [255u8; WITNESS];
     judge(
+        output,
         bytes,
         ends,
         target,
@@ -70,14 +83,22 @@ fn small(bytes: &[u8], ends: &[u16], target: &[u8], n: u16) {
         &mut first,
         &mut second,
         &mut witness,
-    );
+    )?;
+    Ok(())
 }
 
-fn large(bytes: &[u8], ends: &[u16], target: &[u8], n: u16) {
+fn large(
+    output: &mut impl Write,
+    bytes: &[u8],
+    ends: &[u16],
+    target: &[u8],
+    n: u16,
+) -> io::Result<()> {
     let mut first = [65535u16; LARGEST_TABLE];
     let mut second = [65535u16; LARGEST_TABLE];
     let mut witness = [255u8; WITNESS];
     judge(
+        output,
         bytes,
         ends,
         target,
@@ -85,69 +106,71 @@ fn large(bytes: &[u8], ends: &[u16], target: &[u8], n: u16) {
         &mut first,
         &mut second,
         &mut witness,
-    );
+    )?;
+    Ok(())
 }
 
-fn without_list(target: &[u8], n: u16) {
+fn without_list(output: &mut impl Write, target: &[u8], n: u16) -> io::Result<()> {
     let ends = [0u16; 0];
-    small(b"", &ends, target, n);
+    small(output, b"", &ends, target, n)
 }
 
 // P8 to P12
-fn worked_values() {
-    without_list(b"", 0);
-    without_list(b"R", 1000);
+fn worked_values(output: &mut impl Write) -> io::Result<()> {
+    without_list(output, b"", 0)?;
+    without_list(output, b"R", 1000)?;
     let two = [2u16, 3];
-    small(b"RSS", &two, b"R", 3);
-    small(b"RSS", &two, b"R", 2);
+    small(output, b"RSS", &two, b"R", 3)?;
+    small(output, b"RSS", &two, b"R", 2)?;
     let three = [4u16, 5, 9];
-    small(b"RSRSSSRSS", &three, b"R", 3);
-    small(b"RSRSSSRSS", &three, b"R", 2);
+    small(output, b"RSRSSSRSS", &three, b"R", 3)?;
+    small(output, b"RSRSSSRSS", &three, b"R", 2)?;
     let one = [3u16];
-    small(b"SSS", &one, b"", 5);
+    small(output, b"SSS", &one, b"", 5)
 }
 
 // No generators or no factors, and generators that are empty or reduce to nothing.
-fn empty_words() {
-    without_list(b"", 1000);
-    without_list(b"SRRSS", 1000);
-    without_list(b"R", 0);
+fn empty_words(output: &mut impl Write) -> io::Result<()> {
+    without_list(output, b"", 1000)?;
+    without_list(output, b"SRRSS", 1000)?;
+    without_list(output, b"R", 0)?;
     let one = [1u16];
-    small(b"R", &one, b"", 0);
-    small(b"R", &one, b"R", 0);
-    small(b"R", &one, b"R", 1);
+    small(output, b"R", &one, b"", 0)?;
+    small(output, b"R", &one, b"R", 0)?;
+    small(output, b"R", &one, b"R", 1)?;
     let empty = [0u16];
-    small(b"", &empty, b"", 1000);
-    small(b"", &empty, b"R", 1000);
+    small(output, b"", &empty, b"", 1000)?;
+    small(output, b"", &empty, b"R", 1000)?;
     let empty_before_r = [0u16, 1];
-    small(b"R", &empty_before_r, b"R", 1000);
+    small(output, b"R", &empty_before_r, b"R", 1000)?;
     let vanishing_before_s = [5u16, 9];
-    small(b"RSSSRSSSS", &vanishing_before_s, b"SSSS", 1000);
+    small(output, b"RSSSRSSSS", &vanishing_before_s, b"SSSS", 1000)
 }
 
 // Relations, products of the identity: R twice, S three times, S and SS; P11's list with R behind it, where the third generator is its own inverse. No power
 // of SR is one.
-fn relations() {
+fn relations(output: &mut impl Write) -> io::Result<()> {
     let one = [1u16];
-    small(b"R", &one, b"", 2);
-    small(b"R", &one, b"", 1);
-    small(b"S", &one, b"", 1000);
+    small(output, b"R", &one, b"", 2)?;
+    small(output, b"R", &one, b"", 1)?;
+    small(output, b"S", &one, b"", 1000)?;
     let s_before_ss = [1u16, 3];
-    small(b"SSS", &s_before_ss, b"", 1000);
+    small(output, b"SSS", &s_before_ss, b"", 1000)?;
     let eleven_and_r = [4u16, 5, 9, 10];
-    small(b"RSRSSSRSSR", &eleven_and_r, b"", 4);
+    small(output, b"RSRSSSRSSR", &eleven_and_r, b"", 4)?;
     let two = [2u16];
-    small(b"SR", &two, b"", 1000);
+    small(output, b"SR", &two, b"", 1000)
 }
 
 // A generator of 80 letters and its inverse, which has 80 too. No two of their suffixes are the same, so there are as many states as q is, and the tables
 // are used to their last entries.
-fn whole_square() {
+fn whole_square(output: &mut impl Write) -> io::Result<()> {
     let mut first = [65535u16; SQUARE];
     let mut second = [65535u16; SQUARE];
     let mut witness = [255u8; WITNESS];
     let ends = [80u16, 160];
     judge(
+        output,
         b"RSRSSRSRSSRSRSSRSRSSRSRSSRSRSSRSRSSRSRSSRSRSSRSRSSRSRSSRSRSSRSRSSRSRSSRSRSSRSRSSSRSSRSRSSRSRSSRSRSSRSRSSRSRSSRSRSSRSRSSRSRSSRSRSSRSRSSRSRSSRSRSSRSRSSRSRSSRSRSSR",
         &ends,
         b"",
@@ -155,117 +178,123 @@ fn whole_square() {
         &mut first,
         &mut second,
         &mut witness,
-    );
+    )?;
+    Ok(())
 }
 
 // The count is the bound, is above it, and is far below it.
-fn bounds() {
+fn bounds(output: &mut impl Write) -> io::Result<()> {
     let ends = [2u16];
-    small(b"SR", &ends, b"SRSRSRSR", 4);
-    small(b"SR", &ends, b"SRSRSRSR", 3);
-    small(b"SR", &ends, b"SRSRSRSR", 1000);
+    small(output, b"SR", &ends, b"SRSRSRSR", 4)?;
+    small(output, b"SR", &ends, b"SRSRSRSR", 3)?;
+    small(output, b"SR", &ends, b"SRSRSRSR", 1000)
 }
 
 // Several least series: the first is written. Equal generators; an empty one before them; S and SS, RS and R, and R twice, by which words are made in
 // several ways.
-fn firsts() {
+fn firsts(output: &mut impl Write) -> io::Result<()> {
     let equal = [1u16, 2, 3];
-    small(b"RRR", &equal, b"R", 1000);
+    small(output, b"RRR", &equal, b"R", 1000)?;
     let empty_before_equal = [0u16, 1, 2];
-    small(b"SS", &empty_before_equal, b"SS", 1000);
+    small(output, b"SS", &empty_before_equal, b"SS", 1000)?;
     let many = [1u16, 3, 5, 6];
-    small(b"SSSRSR", &many, b"RSS", 1000);
-    small(b"SSSRSR", &many, b"SRSSR", 1000);
-    small(b"SSSRSR", &many, b"RSR", 1000);
+    small(output, b"SSSRSR", &many, b"RSS", 1000)?;
+    small(output, b"SSSRSR", &many, b"SRSSR", 1000)?;
+    small(output, b"SSSRSR", &many, b"RSR", 1000)?;
     let turned = [1u16, 2, 4, 6];
-    small(b"RRSSSS", &turned, b"RSSRS", 1000);
+    small(output, b"RRSSSS", &turned, b"RSSRS", 1000)
 }
 
 // As many generators as there may be, of which the last is R and the others are empty, and one more.
-fn many_generators() {
+fn many_generators(output: &mut impl Write) -> io::Result<()> {
     let mut ends = [0u16; GENERATORS];
     ends[63] = 1;
-    small(b"R", &ends, b"R", 1000);
+    small(output, b"R", &ends, b"R", 1000)?;
     let mut too_many = [0u16; TOO_MANY_GENERATORS];
     too_many[64] = 1;
-    small(b"R", &too_many, b"R", 1000);
+    small(output, b"R", &too_many, b"R", 1000)
 }
 
 // As many letters as there may be, which reduce to nothing, and one more.
-fn many_letters() {
+fn many_letters(output: &mut impl Write) -> io::Result<()> {
     let letters = [82u8; LETTERS];
     let ends = [4096u16];
-    small(&letters, &ends, &letters, 1000);
-    small(&letters, &ends, b"R", 1000);
+    small(output, &letters, &ends, &letters, 1000)?;
+    small(output, &letters, &ends, b"R", 1000)?;
     let too_many = [82u8; TOO_MANY_LETTERS];
     let too_far = [4097u16];
-    small(&too_many, &too_far, b"R", 1000);
-    small(&letters, &ends, &too_many, 1000);
+    small(output, &too_many, &too_far, b"R", 1000)?;
+    small(output, &letters, &ends, &too_many, 1000)
 }
 
 // Question 9
-fn wrong_ends() {
+fn wrong_ends(output: &mut impl Write) -> io::Result<()> {
     let falling = [2u16, 1, 3];
-    small(b"RSS", &falling, b"R", 3);
+    small(output, b"RSS", &falling, b"R", 3)?;
     let falling_twice = [65535u16, 3, 2];
-    small(b"RSS", &falling_twice, b"R", 3);
+    small(output, b"RSS", &falling_twice, b"R", 3)?;
     let too_early = [1u16, 2];
-    small(b"RSS", &too_early, b"R", 3);
+    small(output, b"RSS", &too_early, b"R", 3)?;
     let too_late = [2u16, 4];
-    small(b"RSS", &too_late, b"R", 3);
+    small(output, b"RSS", &too_late, b"R", 3)?;
     let none = [0u16; 0];
-    small(b"RSS", &none, b"R", 3);
+    small(output, b"RSS", &none, b"R", 3)
 }
 
 // Question 10
-fn wrong_letters() {
+fn wrong_letters(output: &mut impl Write) -> io::Result<()> {
     let ends = [2u16, 3];
-    small(b"XSS", &ends, b"R", 3);
-    small(b"RSs", &ends, b"X", 3);
-    small(b"RSS", &ends, b"X", 3);
-    small(b"RSS", &ends, b"RSRX", 3);
-    without_list(b"RX", 3);
+    small(output, b"XSS", &ends, b"R", 3)?;
+    small(output, b"RSs", &ends, b"X", 3)?;
+    small(output, b"RSS", &ends, b"X", 3)?;
+    small(output, b"RSS", &ends, b"RSRX", 3)?;
+    without_list(output, b"RX", 3)
 }
 
 // Question 11: 81 letters, and 81 that reduce to one; a sum of 320 and then an R, and the same R earlier.
-fn long_generators() {
+fn long_generators(output: &mut impl Write) -> io::Result<()> {
     let second = [2u16, 83];
     small(
+        output,
         b"SRRSSRSSRSSRSSRSSRSSRSSRSSRSSRSSRSSRSSRSSRSSRSSRSSRSSRSSRSSRSSRSSRSSRSSRSSRSSRSSRSS",
         &second,
         b"R",
         3,
-    );
+    )?;
     let reducible = [81u16];
     small(
+        output,
         b"RRRRRRRRRRRRRRRRRRRRRRRRRRRRRRRRRRRRRRRRRRRRRRRRRRRRRRRRRRRRRRRRRRRRRRRRRRRRRRRRR",
         &reducible,
         b"R",
         3,
-    );
+    )?;
     let fifth = [80u16, 160, 240, 320, 321];
     small(
+        output,
         b"SRSRSRSRSRSRSRSRSRSRSRSRSRSRSRSRSRSRSRSRSRSRSRSRSRSRSRSRSRSRSRSRSRSRSRSRSRSRSRSRRSRSRSRSRSRSRSRSRSRSRSRSRSRSRSRSRSRSRSRSRSRSRSRSRSRSRSRSRSRSRSRSRSRSRSRSRSRSRSRSSSRSSRSSRSSRSSRSSRSSRSSRSSRSSRSSRSSRSSRSSRSSRSSRSSRSSRSSRSSRSSRSSRSSRSSRSSRSSRSSRSSRSSRSSRSSRSRSRSRSRSRSRSRSRSRSRSRSRSRSRSRSRSRSRSRSRSRSRSRSRSRSRSRSRSRSRSRSRSRSR",
         &fifth,
         b"R",
         3,
-    );
+    )?;
     let fourth = [80u16, 160, 240, 321];
     small(
+        output,
         b"SRSRSRSRSRSRSRSRSRSRSRSRSRSRSRSRSRSRSRSRSRSRSRSRSRSRSRSRSRSRSRSRSRSRSRSRSRSRSRSRRSRSRSRSRSRSRSRSRSRSRSRSRSRSRSRSRSRSRSRSRSRSRSRSRSRSRSRSRSRSRSRSRSRSRSRSRSRSRSRSSSRSSRSSRSSRSSRSSRSSRSSRSSRSSRSSRSSRSSRSSRSSRSSRSSRSSRSSRSSRSSRSSRSSRSSRSSRSSRSSRSSRSSRSSRSSRSRSRSRSRSRSRSRSRSRSRSRSRSRSRSRSRSRSRSRSRSRSRSRSRSRSRSRSRSRSRSRSRSRSR",
         &fourth,
         b"R",
         3,
-    );
+    )
 }
 
 // Question 13
-fn bounds_too_large() {
+fn bounds_too_large(output: &mut impl Write) -> io::Result<()> {
     let mut first = [65535u16; TABLE];
     let mut second = [65535u16; TABLE];
     let mut witness = [255u8; LONG_WITNESS];
     let ends = [2u16, 3];
     judge(
+        output,
         b"RSS",
         &ends,
         b"R",
@@ -273,8 +302,9 @@ fn bounds_too_large() {
         &mut first,
         &mut second,
         &mut witness,
-    );
+    )?;
     judge(
+        output,
         b"RSS",
         &ends,
         b"R",
@@ -282,8 +312,9 @@ fn bounds_too_large() {
         &mut first,
         &mut second,
         &mut witness,
-    );
+    )?;
     judge(
+        output,
         b"RSS",
         &ends,
         b"R",
@@ -291,30 +322,60 @@ fn bounds_too_large() {
         &mut first,
         &mut second,
         &mut witness,
-    );
+    )?;
+    Ok(())
 }
 
 // Question 14: n 0 with no witness, and P10 with a witness of 2 bytes and of 3.
-fn witness_rooms() {
+fn witness_rooms(output: &mut impl Write) -> io::Result<()> {
     let mut first = [65535u16; TABLE];
     let mut second = [65535u16; TABLE];
     let mut none = [255u8; 0];
     let mut two = [255u8; 2];
     let mut three = [255u8; 3];
     let ends = [2u16, 3];
-    judge(b"RSS", &ends, b"", 0, &mut first, &mut second, &mut none);
-    judge(b"RSS", &ends, b"R", 3, &mut first, &mut second, &mut two);
-    judge(b"RSS", &ends, b"R", 3, &mut first, &mut second, &mut three);
+    judge(
+        output,
+        b"RSS",
+        &ends,
+        b"",
+        0,
+        &mut first,
+        &mut second,
+        &mut none,
+    )?;
+    judge(
+        output,
+        b"RSS",
+        &ends,
+        b"R",
+        3,
+        &mut first,
+        &mut second,
+        &mut two,
+    )?;
+    judge(
+        output,
+        b"RSS",
+        &ends,
+        b"R",
+        3,
+        &mut first,
+        &mut second,
+        &mut three,
+    )?;
+    Ok(())
 }
 
 // Question 15: q is 15.
-fn table_rooms() {
+fn table_rooms(output: &mut impl Write) -> io::Result<()> {
     let mut first = [65535u16; ENOUGH];
     let mut second = [65535u16; ENOUGH];
     let mut short = [65535u16; TOO_SHORT];
     let mut witness = [255u8; WITNESS];
     let ends = [2u16];
     judge(
+        output,
         b"SR",
         &ends,
         b"SRSRSR",
@@ -322,8 +383,9 @@ fn table_rooms() {
         &mut short,
         &mut second,
         &mut witness,
-    );
+    )?;
     judge(
+        output,
         b"SR",
         &ends,
         b"SRSRSR",
@@ -331,8 +393,9 @@ fn table_rooms() {
         &mut first,
         &mut short,
         &mut witness,
-    );
+    )?;
     judge(
+        output,
         b"SR",
         &ends,
         b"SRSRSR",
@@ -340,14 +403,22 @@ fn table_rooms() {
         &mut first,
         &mut second,
         &mut witness,
-    );
+    )?;
+    Ok(())
 }
 
-fn lending_a_witness(bytes: &[u8], ends: &[u16], target: &[u8], n: u16) {
+fn lending_a_witness(
+    output: &mut impl Write,
+    bytes: &[u8],
+    ends: &[u16],
+    target: &[u8],
+    n: u16,
+) -> io::Result<()> {
     let mut first = [65535u16; 0];
     let mut second = [65535u16; 0];
     let mut witness = [255u8; WITNESS];
     judge(
+        output,
         bytes,
         ends,
         target,
@@ -355,14 +426,22 @@ fn lending_a_witness(bytes: &[u8], ends: &[u16], target: &[u8], n: u16) {
         &mut first,
         &mut second,
         &mut witness,
-    );
+    )?;
+    Ok(())
 }
 
-fn lending_nothing(bytes: &[u8], ends: &[u16], target: &[u8], n: u16) {
+fn lending_nothing(
+    output: &mut impl Write,
+    bytes: &[u8],
+    ends: &[u16],
+    target: &[u8],
+    n: u16,
+) -> io::Result<()> {
     let mut first = [65535u16; 0];
     let mut second = [65535u16; 0];
     let mut witness = [255u8; 0];
     judge(
+        output,
         bytes,
         ends,
         target,
@@ -370,121 +449,133 @@ fn lending_nothing(bytes: &[u8], ends: &[u16], target: &[u8], n: u16) {
         &mut first,
         &mut second,
         &mut witness,
-    );
+    )?;
+    Ok(())
 }
 
 // At first the answer to every question from 7 to 15 is no, and then from call to call one more is yes.
-fn lowest_of_many() {
+fn lowest_of_many(output: &mut impl Write) -> io::Result<()> {
     let far_too_many = [88u8; TOO_MANY_LETTERS];
     let too_many_ends = [0u16; TOO_MANY_GENERATORS];
-    lending_nothing(&far_too_many, &too_many_ends, &far_too_many, 1001);
+    lending_nothing(output, &far_too_many, &too_many_ends, &far_too_many, 1001)?;
     let wrong_ends = [0u16; GENERATORS];
-    lending_nothing(&far_too_many, &wrong_ends, &far_too_many, 1001);
+    lending_nothing(output, &far_too_many, &wrong_ends, &far_too_many, 1001)?;
     let wrong_letters = [88u8; LETTERS];
-    lending_nothing(&wrong_letters, &wrong_ends, &far_too_many, 1001);
-    lending_nothing(&wrong_letters, &wrong_ends, &wrong_letters, 1001);
+    lending_nothing(output, &wrong_letters, &wrong_ends, &far_too_many, 1001)?;
+    lending_nothing(output, &wrong_letters, &wrong_ends, &wrong_letters, 1001)?;
     let ends = [4096u16; GENERATORS];
-    lending_nothing(&wrong_letters, &ends, &wrong_letters, 1001);
+    lending_nothing(output, &wrong_letters, &ends, &wrong_letters, 1001)?;
     let one = [81u16];
     lending_nothing(
+        output,
         b"RSSRSSRSSRSSRSSRSSRSSRSSRSSRSSRSSRSSRSSRSSRSSRSSRSSRSSRSSRSSRSSRSSRSSRSSRSSRSSRSS",
         &one,
         &wrong_letters,
         1001,
-    );
+    )
 }
 
-fn lowest_of_the_rest() {
+fn lowest_of_the_rest(output: &mut impl Write) -> io::Result<()> {
     let long = [81u16];
     lending_nothing(
+        output,
         b"RSSRSSRSSRSSRSSRSSRSSRSSRSSRSSRSSRSSRSSRSSRSSRSSRSSRSSRSSRSSRSSRSSRSSRSSRSSRSSRSS",
         &long,
         b"RSSRSSRSSRSSRSSRSSRSSRSSRSSRSSRSSRSSRSSRSSRSSRSSRSSRSSRSSRSSRSSRSSRSSRSSRSSRSSRSS",
         1001,
-    );
+    )?;
     let ends = [2u16];
     lending_nothing(
+        output,
         b"SR",
         &ends,
         b"RSSRSSRSSRSSRSSRSSRSSRSSRSSRSSRSSRSSRSSRSSRSSRSSRSSRSSRSSRSSRSSRSSRSSRSSRSSRSSRSS",
         1001,
-    );
-    lending_nothing(b"SR", &ends, b"SRSRSR", 1001);
-    lending_nothing(b"SR", &ends, b"SRSRSR", 1000);
-    lending_a_witness(b"SR", &ends, b"SRSRSR", 1000);
-    small(b"SR", &ends, b"SRSRSR", 1000);
+    )?;
+    lending_nothing(output, b"SR", &ends, b"SRSRSR", 1001)?;
+    lending_nothing(output, b"SR", &ends, b"SRSRSR", 1000)?;
+    lending_a_witness(output, b"SR", &ends, b"SRSRSR", 1000)?;
+    small(output, b"SR", &ends, b"SRSRSR", 1000)
 }
 
 // Targets of 80, 82, 78 and 81 letters: powers of T.
-fn long_targets() {
+fn long_targets(output: &mut impl Write) -> io::Result<()> {
     let ends = [2u16];
     large(
+        output,
         b"SR",
         &ends,
         b"SRSRSRSRSRSRSRSRSRSRSRSRSRSRSRSRSRSRSRSRSRSRSRSRSRSRSRSRSRSRSRSRSRSRSRSRSRSRSRSR",
         1000,
-    );
+    )?;
     large(
+        output,
         b"SR",
         &ends,
         b"SRSRSRSRSRSRSRSRSRSRSRSRSRSRSRSRSRSRSRSRSRSRSRSRSRSRSRSRSRSRSRSRSRSRSRSRSRSRSRSRSR",
         1000,
-    );
+    )?;
     let inverse_ends = [3u16];
     large(
+        output,
         b"RSS",
         &inverse_ends,
         b"RSSRSSRSSRSSRSSRSSRSSRSSRSSRSSRSSRSSRSSRSSRSSRSSRSSRSSRSSRSSRSSRSSRSSRSSRSSRSS",
         1000,
-    );
+    )?;
     large(
+        output,
         b"RSS",
         &inverse_ends,
         b"RSSRSSRSSRSSRSSRSSRSSRSSRSSRSSRSSRSSRSSRSSRSSRSSRSSRSSRSSRSSRSSRSSRSSRSSRSSRSSRSS",
         1000,
-    );
+    )
 }
 
 // Four generators of 80 letters, each with an even number of R's.
-fn four_of_80(target: &[u8], n: u16) {
+fn four_of_80(output: &mut impl Write, target: &[u8], n: u16) -> io::Result<()> {
     let ends = [80u16, 160, 240, 320];
     large(
+        output,
         b"SRSRSRSRSRSRSRSRSRSRSRSRSRSRSRSRSRSRSRSRSRSRSRSRSRSRSRSRSRSRSRSRSRSRSRSRSRSRSRSRRSRSRSRSRSRSRSRSRSRSRSRSRSRSRSRSRSRSRSRSRSRSRSRSRSRSRSRSRSRSRSRSRSRSRSRSRSRSRSRSSSRSSRSSRSSRSSRSSRSSRSSRSSRSSRSSRSSRSSRSSRSSRSSRSSRSSRSSRSSRSSRSSRSSRSSRSSRSSRSSRSSRSSRSSRSSRSRSRSRSRSRSRSRSRSRSRSRSRSRSRSRSRSRSRSRSRSRSRSRSRSRSRSRSRSRSRSRSRSRS",
         &ends,
         target,
         n,
-    );
+    )
 }
 
 // The largest tables: the target is the third generator, or has an odd number of R's, which no product of them has.
-fn largest_calls() {
+fn largest_calls(output: &mut impl Write) -> io::Result<()> {
     four_of_80(
+        output,
         b"SSRSSRSSRSSRSSRSSRSSRSSRSSRSSRSSRSSRSSRSSRSSRSSRSSRSSRSSRSSRSSRSSRSSRSSRSSRSSRSS",
         1,
-    );
+    )?;
     four_of_80(
+        output,
         b"RSSRSSRSSRSSRSSRSSRSSRSSRSSRSSRSSRSSRSSRSSRSSRSSRSSRSSRSSRSSRSSRSSRSSRSSRSSRSSRS",
         1000,
-    );
+    )
 }
 
-fn main() {
-    worked_values();
-    empty_words();
-    relations();
-    whole_square();
-    bounds();
-    firsts();
-    many_generators();
-    many_letters();
-    wrong_ends();
-    wrong_letters();
-    long_generators();
-    bounds_too_large();
-    witness_rooms();
-    table_rooms();
-    lowest_of_many();
-    lowest_of_the_rest();
-    long_targets();
-    largest_calls();
+fn main(rt: HostRuntime) -> io::Result<()> {
+    let output = &mut rt.stdout();
+    worked_values(output)?;
+    empty_words(output)?;
+    relations(output)?;
+    whole_square(output)?;
+    bounds(output)?;
+    firsts(output)?;
+    many_generators(output)?;
+    many_letters(output)?;
+    wrong_ends(output)?;
+    wrong_letters(output)?;
+    long_generators(output)?;
+    bounds_too_large(output)?;
+    witness_rooms(output)?;
+    table_rooms(output)?;
+    lowest_of_many(output)?;
+    lowest_of_the_rest(output)?;
+    long_targets(output)?;
+    largest_calls(output)
 }

@@ -1,16 +1,16 @@
 // What the trial prints a verdict with.
 use engine::Verdict;
 use showing::number;
+use std::io;
+use std::io::Write;
 
-pub(crate) fn verdict(answer: Verdict) {
+pub(crate) fn verdict(output: &mut impl Write, answer: Verdict) -> io::Result<()> {
     match answer {
         Verdict::Member(count) => {
-            io::write_all(1, b"member");
-            number(count.0);
+            write!(output, "member")?;
+            number(output, count.0)
         }
-        Verdict::None => {
-            io::write_all(1, b"none");
-        }
-        Verdict::Refused(refusal) => showing::refusal(refusal),
+        Verdict::None => write!(output, "none"),
+        Verdict::Refused(refusal) => showing::refusal(output, refusal),
     }
 }

@@ -2,6 +2,8 @@
 ghost use Rattle.std.specs.Prelude.{◌≡◌, nat_abs};
 
 use matrices::Matrix;
+use std::io;
+use std::io::Write;
 
 // Without its sign. The least number has no negation in 64 bits, and the one above it has.
 fn magnitude(x: i64) -> u64
@@ -13,19 +15,20 @@ fn magnitude(x: i64) -> u64
     x as u64
 }
 
-pub(crate) fn signed(x: i64) {
+pub(crate) fn signed(output: &mut impl Write, x: i64) -> io::Result<()> {
     if x < 0 {
-        io::write_all(1, b"-");
+        write!(output, "-")?;
     }
-    io::print_decimal(1, magnitude(x));
+    let magnitude = magnitude(x);
+    write!(output, "{magnitude}")
 }
 
-pub(crate) fn matrix(m: Matrix) {
-    signed(m.a);
-    io::write_all(1, b" ");
-    signed(m.b);
-    io::write_all(1, b" ");
-    signed(m.c);
-    io::write_all(1, b" ");
-    signed(m.d);
+pub(crate) fn matrix(output: &mut impl Write, m: Matrix) -> io::Result<()> {
+    signed(output, m.a)?;
+    write!(output, " ")?;
+    signed(output, m.b)?;
+    write!(output, " ")?;
+    signed(output, m.c)?;
+    write!(output, " ")?;
+    signed(output, m.d)
 }

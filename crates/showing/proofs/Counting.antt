@@ -1,14 +1,6 @@
 -- The loops that count along a slice: the count so far, and what is left to count. Assumes nothing.
-use mathlib.Core.Bool.{Bool, true, false}
-use mathlib.Core.Path.{◌≡◌, refl, sym, ap, ◌∙◌}
-use mathlib.Core.List.{List, [], ◌∷◌}
-use Prim.Native.Nat.{ℕ, ◌+◌, ◌≤◌, ◌<◌, zero-le}
-use native.Mathlib.Nat.{zero-add, add-zero}
-use native.Mathlib.Numerals.{add-one}
-use native.Mathlib.Omega.{arith}
-use lib.Dec.{eqb}
-use lib.ListN.{length, get_or, drop, drop_of_length-le}
-use lib.Seq.{drop-cons}
+use Rattle.std.proofs.Common.{Bool, true, false, ◌≡◌, refl, sym, ap, ◌∙◌, List, [], ◌∷◌, ℕ, ◌+◌, ◌≤◌, ◌<◌, zero-le, add-zero, add-one, arith, eqb, length, get_or, drop, drop_of_length-le, drop-cons}
+use native.Mathlib.Nat.{zero-add}
 use Rattle.refusals.specs.Telling.{pick}
 use Rattle.showing.specs.Counting.{count_of}
 

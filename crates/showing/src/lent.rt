@@ -4,6 +4,8 @@ ghost use Rattle.refusals.specs.Telling.{pick};
 ghost use Rattle.showing.specs.Counting.{count_of};
 
 use crate::number;
+use std::io;
+use std::io::Write;
 
 // One more, where x has the value.
 fn one_more(count: usize, x: u16, value: u16) -> usize
@@ -21,21 +23,17 @@ fn count_entries(entries: &[u16], value: u16) -> usize
     ensures { result ≡ count_of value entries.now }
 {
     let mut count = 0;
-    let mut i = 0;
-    while i < entries.len() {
-        count = one_more(count, entries[i], value);
-        i += 1;
+    for entry in entries {
+        count = one_more(count, *entry, value);
     }
     count
 }
 
 // How many entries of a table are 0, and how many are as they were.
-pub fn table(entries: &[u16]) {
-    io::write_all(1, b"; ");
-    io::print_decimal(1, count_entries(entries, 0) as u64);
-    io::write_all(1, b" zero, ");
-    io::print_decimal(1, count_entries(entries, 65535) as u64);
-    io::write_all(1, b" full");
+pub fn table(output: &mut impl Write, entries: &[u16]) -> io::Result<()> {
+    let zero = count_entries(entries, 0);
+    let full = count_entries(entries, 65535);
+    write!(output, "; {zero} zero, {full} full")
 }
 
 fn wide(x: u8) -> u16
@@ -44,50 +42,44 @@ fn wide(x: u8) -> u16
     x as u16
 }
 
-fn factors(bytes: &[u8]) {
-    let mut i = 0;
-    while i < bytes.len() {
-        number(wide(bytes[i]));
-        i += 1;
+fn factors(output: &mut impl Write, bytes: &[u8]) -> io::Result<()> {
+    for factor in bytes {
+        number(output, wide(*factor))?;
     }
+    Ok(())
 }
 
 fn count_bytes(bytes: &[u8], value: u16) -> usize
     ensures { result ≡ count_of value bytes.now }
 {
     let mut count = 0;
-    let mut i = 0;
-    while i < bytes.len() {
-        count = one_more(count, wide(bytes[i]), value);
-        i += 1;
+    for byte in bytes {
+        count = one_more(count, wide(*byte), value);
     }
     count
 }
 
 // At most the first six bytes.
-fn first_factors(bytes: &[u8]) {
+fn first_factors(output: &mut impl Write, bytes: &[u8]) -> io::Result<()> {
     if bytes.len() <= 6 {
-        factors(bytes);
+        factors(output, bytes)
     } else {
-        factors(&bytes[..6]);
+        factors(output, &bytes[..6])
     }
 }
 
 // The first bytes of the witness, and how many are as they were.
-pub fn witness(bytes: &[u8]) {
-    io::write_all(1, b";");
-    first_factors(bytes);
-    io::write_all(1, b", ");
-    io::print_decimal(1, count_bytes(bytes, 255) as u64);
-    io::write_all(1, b" full");
+pub fn witness(output: &mut impl Write, bytes: &[u8]) -> io::Result<()> {
+    write!(output, ";")?;
+    first_factors(output, bytes)?;
+    let full = count_bytes(bytes, 255);
+    write!(output, ", {full} full")
 }
 
 // The letters in front of a slice that was full of dots, and how many dots are left.
-pub fn letters(bytes: &[u8]) {
+pub fn letters(output: &mut impl Write, bytes: &[u8]) -> io::Result<()> {
     let dots = count_bytes(bytes, 46);
-    io::write_all(1, b"; '");
-    crate::word(&bytes[..bytes.len() - dots]);
-    io::write_all(1, b"', ");
-    io::print_decimal(1, dots as u64);
-    io::write_all(1, b" dots");
+    write!(output, "; '")?;
+    crate::word(output, &bytes[..bytes.len() - dots])?;
+    write!(output, "', {dots} dots")
 }

@@ -3,13 +3,17 @@
 // many are still full; of the inverse slice, which was full of dots, the letters in front and how many dots are left. Of the letters of a factor: the list, the
 // length of the inverse slice and the factor's number; of which slice they are part, from where to where, and the letters. What it must print stands in
 // `stdout`.
+#![tactic(auto)]
+
 mod printing;
 
-ghost use Rattle.std.specs.Prelude.{◌≡◌, length};
+ghost use Rattle.std.specs.Prelude.{◌≡◌, length, IfOk};
 ghost use Rattle.subgroups.specs.Calls.{JudgesSigned};
 ghost use Rattle.subgroups.specs.Parts.{part_of};
 
 use engine::Verdict;
+use std::io;
+use std::io::Write;
 use subgroups::Part;
 use words::Factors;
 
@@ -52,6 +56,7 @@ const LETTERS: usize = 4096;
 const TOO_MANY_LETTERS: usize = 4097;
 
 fn judge(
+    output: &mut impl Write,
     bytes: &[u8],
     ends: &[u16],
     target: &[u8],
@@ -60,13 +65,13 @@ fn judge(
     second: &mut [u16],
     witness: &mut [u8],
     inverses: &mut [u8],
-) -> Verdict
-    ensures { JudgesSigned bytes.now ends.now target.now n result
-        (record { first = first.entry.now; second = second.old; witness = witness.old })
-        (record { first = first.exit.now; second = second.new; witness = witness.new })
-        inverses.old inverses.new }
+) -> io::Result<Verdict>
+    ensures { IfOk result (λ verdict. JudgesSigned bytes.now ends.now target.now n verdict
+        (record { first = first.old; second = second.old; witness = witness.old })
+        (record { first = first.new; second = second.new; witness = witness.new })
+        inverses.old inverses.new) }
 {
-    showing::lists::call(bytes, ends, target, n);
+    showing::lists::call(output, bytes, ends, target, n)?;
     let verdict = subgroups::judge(
         bytes,
         ends,
@@ -77,21 +82,28 @@ fn judge(
         witness,
         inverses,
     );
-    printing::verdict(verdict);
-    showing::lent::table(first);
-    showing::lent::table(second);
-    showing::lent::witness(witness);
-    showing::lent::letters(inverses);
-    io::write_all(1, b"\n");
-    verdict
+    printing::verdict(output, verdict)?;
+    showing::lent::table(output, first)?;
+    showing::lent::table(output, second)?;
+    showing::lent::witness(output, witness)?;
+    showing::lent::letters(output, inverses)?;
+    writeln!(output)?;
+    Ok(verdict)
 }
 
-fn small(bytes: &[u8], ends: &[u16], target: &[u8], n: u16) {
+fn small(
+    output: &mut impl Write,
+    bytes: &[u8],
+    ends: &[u16],
+    target: &[u8],
+    n: u16,
+) -> io::Result<()> {
     let mut first = [65535u16; TABLE];
     let mut second = [65535u16; TABLE];
     let mut witness = [255u8; WITNESS];
     let mut inverses = [46u8; INVERSES];
     judge(
+        output,
         bytes,
         ends,
         target,
@@ -100,68 +112,70 @@ fn small(bytes: &[u8], ends: &[u16], target: &[u8], n: u16) {
         &mut second,
         &mut witness,
         &mut inverses,
-    );
+    )?;
+    Ok(())
 }
 
-fn without_list(target: &[u8], n: u16) {
+fn without_list(output: &mut impl Write, target: &[u8], n: u16) -> io::Result<()> {
     let ends = [0u16; 0];
-    small(b"", &ends, target, n);
+    small(output, b"", &ends, target, n)
 }
 
 // One generator, whose inverse makes the target at once or is the generator itself; the lists and the target of P10 and P11.
-fn worked_values() {
+fn worked_values(output: &mut impl Write) -> io::Result<()> {
     let s = [1u16];
-    small(b"S", &s, b"SS", 1000);
+    small(output, b"S", &s, b"SS", 1000)?;
     let sr = [2u16];
-    small(b"SR", &sr, b"RSS", 1000);
+    small(output, b"SR", &sr, b"RSS", 1000)?;
     let r = [1u16];
-    small(b"R", &r, b"R", 1000);
+    small(output, b"R", &r, b"R", 1000)?;
     let two = [2u16, 3];
-    small(b"RSS", &two, b"R", 2);
-    small(b"RSS", &two, b"R", 1);
+    small(output, b"RSS", &two, b"R", 2)?;
+    small(output, b"RSS", &two, b"R", 1)?;
     let three = [4u16, 5, 9];
-    small(b"RSRSSSRSS", &three, b"R", 3);
+    small(output, b"RSRSSSRSS", &three, b"R", 3)
 }
 
 // No generators or no factors, and generators that are empty or reduce to nothing.
-fn empty_words() {
-    without_list(b"", 0);
-    without_list(b"R", 1000);
+fn empty_words(output: &mut impl Write) -> io::Result<()> {
+    without_list(output, b"", 0)?;
+    without_list(output, b"R", 1000)?;
     let empty = [0u16];
-    small(b"", &empty, b"", 1000);
-    small(b"", &empty, b"R", 1000);
+    small(output, b"", &empty, b"", 1000)?;
+    small(output, b"", &empty, b"R", 1000)?;
     let vanishing_before_s = [5u16, 9];
-    small(b"RSSSRSSSS", &vanishing_before_s, b"SSSS", 1000);
-    small(b"RSSSRSSSS", &vanishing_before_s, b"SS", 1000);
+    small(output, b"RSSSRSSSS", &vanishing_before_s, b"SSSS", 1000)?;
+    small(output, b"RSSSRSSSS", &vanishing_before_s, b"SS", 1000)
 }
 
 // Relations, products of the identity: a generator that vanishes; R twice; S and SS; P11's list with R behind it, and SR, each with a generator and its
 // inverse. An empty list has none.
-fn relations() {
+fn relations(output: &mut impl Write) -> io::Result<()> {
     let three = [3u16];
-    small(b"SSS", &three, b"", 5);
+    small(output, b"SSS", &three, b"", 5)?;
     let r = [1u16];
-    small(b"R", &r, b"", 2);
-    small(b"R", &r, b"", 1);
+    small(output, b"R", &r, b"", 2)?;
+    small(output, b"R", &r, b"", 1)?;
     let s_before_ss = [1u16, 3];
-    small(b"SSS", &s_before_ss, b"", 1000);
+    small(output, b"SSS", &s_before_ss, b"", 1000)?;
     let eleven_and_r = [4u16, 5, 9, 10];
-    small(b"RSRSSSRSSR", &eleven_and_r, b"", 4);
+    small(output, b"RSRSSSRSSR", &eleven_and_r, b"", 4)?;
     let sr = [2u16];
-    small(b"SR", &sr, b"", 1000);
-    small(b"SR", &sr, b"", 1);
-    without_list(b"", 1000);
+    small(output, b"SR", &sr, b"", 1000)?;
+    small(output, b"SR", &sr, b"", 1)?;
+    without_list(output, b"", 1000)
 }
 
 // A generator of 80 letters, whose inverse has 120. No two of their suffixes are the same, so there are as many states as q is, and the tables are used to
 // their last entries.
-fn whole_square() {
+fn whole_square(output: &mut impl Write) -> io::Result<()> {
     let mut first = [65535u16; SQUARE];
     let mut second = [65535u16; SQUARE];
     let mut witness = [255u8; WITNESS];
     let mut inverses = [46u8; INVERSES];
     let ends = [80u16];
     judge(
+        output,
         b"RSRSRSRSRSRSRSRSRSRSRSRSRSRSRSRSRSRSRSRSRSRSRSRSRSRSRSRSRSRSRSRSRSRSRSRSRSRSRSRS",
         &ends,
         b"",
@@ -170,39 +184,41 @@ fn whole_square() {
         &mut second,
         &mut witness,
         &mut inverses,
-    );
+    )?;
+    Ok(())
 }
 
 // Several least series: the first is written, and a given number stands before an inverse's. SS is a generator or the inverse of S; R is its own inverse.
-fn firsts() {
+fn firsts(output: &mut impl Write) -> io::Result<()> {
     let s_before_ss = [1u16, 3];
-    small(b"SSS", &s_before_ss, b"SS", 1000);
+    small(output, b"SSS", &s_before_ss, b"SS", 1000)?;
     let ss_before_s = [2u16, 3];
-    small(b"SSS", &ss_before_s, b"S", 1000);
+    small(output, b"SSS", &ss_before_s, b"S", 1000)?;
     let sr_before_r = [2u16, 3];
-    small(b"SRR", &sr_before_r, b"S", 1000);
+    small(output, b"SRR", &sr_before_r, b"S", 1000)?;
     let s_before_r = [1u16, 2];
-    small(b"SR", &s_before_r, b"RSSR", 1000);
-    small(b"SR", &s_before_r, b"SSRSRSS", 1000);
+    small(output, b"SR", &s_before_r, b"RSSR", 1000)?;
+    small(output, b"SR", &s_before_r, b"SSRSRSS", 1000)
 }
 
 // Powers of T, up and down: the count is the bound, or above it; R is none of them.
-fn powers_of_t() {
+fn powers_of_t(output: &mut impl Write) -> io::Result<()> {
     let ends = [2u16];
-    small(b"SR", &ends, b"SRSRSR", 3);
-    small(b"SR", &ends, b"RSSRSS", 2);
-    small(b"SR", &ends, b"RSSRSS", 1);
-    small(b"SR", &ends, b"R", 1000);
+    small(output, b"SR", &ends, b"SRSRSR", 3)?;
+    small(output, b"SR", &ends, b"RSSRSS", 2)?;
+    small(output, b"SR", &ends, b"RSSRSS", 1)?;
+    small(output, b"SR", &ends, b"R", 1000)
 }
 
 // S, SR, SR to the 40th, and an empty generator.
-fn four(target: &[u8], n: u16) {
+fn four(output: &mut impl Write, target: &[u8], n: u16) -> io::Result<()> {
     let mut first = [65535u16; LARGE_TABLE];
     let mut second = [65535u16; LARGE_TABLE];
     let mut witness = [255u8; WITNESS];
     let mut inverses = [46u8; INVERSES];
     let ends = [1u16, 3, 83, 83];
     judge(
+        output,
         b"SSRSRSRSRSRSRSRSRSRSRSRSRSRSRSRSRSRSRSRSRSRSRSRSRSRSRSRSRSRSRSRSRSRSRSRSRSRSRSRSRSR",
         &ends,
         target,
@@ -211,62 +227,78 @@ fn four(target: &[u8], n: u16) {
         &mut second,
         &mut witness,
         &mut inverses,
-    );
+    )?;
+    Ok(())
 }
 
-fn four_generators() {
-    four(b"", 0);
-    four(b"S", 0);
-    four(b"", 1000);
-    four(b"S", 1000);
-    four(b"SS", 1000);
-    four(b"SR", 1000);
-    four(b"RSS", 1000);
+fn four_generators(output: &mut impl Write) -> io::Result<()> {
+    four(output, b"", 0)?;
+    four(output, b"S", 0)?;
+    four(output, b"", 1000)?;
+    four(output, b"S", 1000)?;
+    four(output, b"SS", 1000)?;
+    four(output, b"SR", 1000)?;
+    four(output, b"RSS", 1000)?;
     four(
+        output,
         b"SRSRSRSRSRSRSRSRSRSRSRSRSRSRSRSRSRSRSRSRSRSRSRSRSRSRSRSRSRSRSRSRSRSRSRSRSRSRSRSR",
         1000,
-    );
-    four(b"R", 2);
-    four(b"R", 1);
+    )?;
+    four(output, b"R", 2)?;
+    four(output, b"R", 1)?;
     four(
+        output,
         b"RSSRSSRSSRSSRSSRSSRSSRSSRSSRSSRSSRSSRSSRSSRSSRSSRSSRSSRSSRSSRSSRSSRSSRSSRSSRSSRSSRSSRSSRSSRSSRSSRSSRSSRSSRSSRSSRSSRSSRSS",
         1000,
-    );
+    )
 }
 
-fn factor<'a>(bytes: &'a [u8], ends: &[u16], inverses: &'a [u8], number: u8) -> Part
-    ensures { result ≡ part_of bytes.now ends.now (length inverses.now) number }
+fn factor<'a>(
+    output: &mut impl Write,
+    bytes: &'a [u8],
+    ends: &[u16],
+    inverses: &'a [u8],
+    number: u8,
+) -> io::Result<Part>
+    ensures { IfOk result (λ part. part ≡ part_of bytes.now ends.now (length inverses.now) number) }
 {
-    printing::factor(bytes, ends, inverses.len(), number);
+    printing::factor(output, bytes, ends, inverses.len(), number)?;
     let part = subgroups::part_of(bytes, ends, inverses.len(), number);
-    printing::part(part);
-    io::write_all(1, b" '");
-    io::write_all(1, subgroups::letters_of(bytes, ends, inverses, number));
-    io::write_all(1, b"'\n");
-    part
+    printing::part(output, part)?;
+    write!(output, " '")?;
+    output.write_all(subgroups::letters_of(bytes, ends, inverses, number))?;
+    writeln!(output, "'")?;
+    Ok(part)
 }
 
 // Given and inverse numbers, of which a list of 64 generators has all but four, and a list of two only four.
-fn factors<'a>(bytes: &'a [u8], ends: &[u16], inverses: &'a [u8]) {
-    factor(bytes, ends, inverses, 0);
-    factor(bytes, ends, inverses, 1);
-    factor(bytes, ends, inverses, 2);
-    factor(bytes, ends, inverses, 3);
-    factor(bytes, ends, inverses, 63);
-    factor(bytes, ends, inverses, 64);
-    factor(bytes, ends, inverses, 127);
-    factor(bytes, ends, inverses, 128);
-    factor(bytes, ends, inverses, 129);
-    factor(bytes, ends, inverses, 130);
-    factor(bytes, ends, inverses, 131);
-    factor(bytes, ends, inverses, 132);
-    factor(bytes, ends, inverses, 191);
-    factor(bytes, ends, inverses, 192);
-    factor(bytes, ends, inverses, 255);
+fn factors<'a>(
+    output: &mut impl Write,
+    bytes: &'a [u8],
+    ends: &[u16],
+    inverses: &'a [u8],
+) -> io::Result<()> {
+    factor(output, bytes, ends, inverses, 0)?;
+    factor(output, bytes, ends, inverses, 1)?;
+    factor(output, bytes, ends, inverses, 2)?;
+    factor(output, bytes, ends, inverses, 3)?;
+    factor(output, bytes, ends, inverses, 63)?;
+    factor(output, bytes, ends, inverses, 64)?;
+    factor(output, bytes, ends, inverses, 127)?;
+    factor(output, bytes, ends, inverses, 128)?;
+    factor(output, bytes, ends, inverses, 129)?;
+    factor(output, bytes, ends, inverses, 130)?;
+    factor(output, bytes, ends, inverses, 131)?;
+    factor(output, bytes, ends, inverses, 132)?;
+    factor(output, bytes, ends, inverses, 191)?;
+    factor(output, bytes, ends, inverses, 192)?;
+    factor(output, bytes, ends, inverses, 255)?;
+    Ok(())
 }
 
 // With just enough entries. As arrays the tables have their lengths by their types, and no proof has to count their entries.
 fn just_enough(
+    output: &mut impl Write,
     bytes: &[u8],
     ends: &[u16],
     target: &[u8],
@@ -274,17 +306,20 @@ fn just_enough(
     second: &mut [u16; LARGEST_TABLE],
     witness: &mut [u8],
     inverses: &mut [u8],
-) -> Verdict
-    ensures { JudgesSigned bytes.now ends.now target.now 1 result
-        (record { first = first.entry.now; second = second.old; witness = witness.old })
-        (record { first = first.exit.now; second = second.new; witness = witness.new })
-        inverses.old inverses.new }
+) -> io::Result<Verdict>
+    ensures { IfOk result (λ verdict. JudgesSigned bytes.now ends.now target.now 1 verdict
+        (record { first = first.old; second = second.old; witness = witness.old })
+        (record { first = first.new; second = second.new; witness = witness.new })
+        inverses.old inverses.new) }
 {
-    judge(bytes, ends, target, 1, first, second, witness, inverses)
+    judge(
+        output, bytes, ends, target, 1, first, second, witness, inverses,
+    )
 }
 
 // The second table has one entry too few.
 fn one_entry_less(
+    output: &mut impl Write,
     bytes: &[u8],
     ends: &[u16],
     target: &[u8],
@@ -292,17 +327,24 @@ fn one_entry_less(
     second: &mut [u16; LARGEST_LESS_ONE],
     witness: &mut [u8],
     inverses: &mut [u8],
-) -> Verdict
-    ensures { JudgesSigned bytes.now ends.now target.now 1 result
-        (record { first = first.entry.now; second = second.old; witness = witness.old })
-        (record { first = first.exit.now; second = second.new; witness = witness.new })
-        inverses.old inverses.new }
+) -> io::Result<Verdict>
+    ensures { IfOk result (λ verdict. JudgesSigned bytes.now ends.now target.now 1 verdict
+        (record { first = first.old; second = second.old; witness = witness.old })
+        (record { first = first.new; second = second.new; witness = witness.new })
+        inverses.old inverses.new) }
 {
-    judge(bytes, ends, target, 1, first, second, witness, inverses)
+    judge(
+        output, bytes, ends, target, 1, first, second, witness, inverses,
+    )
 }
 
 // No witness for one factor; an inverse slice with one byte too few; a table with one entry too few; and then just enough of all.
-fn in_largest_tables(bytes: &[u8], ends: &[u16], target: &[u8]) {
+fn in_largest_tables(
+    output: &mut impl Write,
+    bytes: &[u8],
+    ends: &[u16],
+    target: &[u8],
+) -> io::Result<()> {
     let mut first = [65535u16; LARGEST_TABLE];
     let mut second = [65535u16; LARGEST_TABLE];
     let mut less = [65535u16; LARGEST_LESS_ONE];
@@ -311,6 +353,7 @@ fn in_largest_tables(bytes: &[u8], ends: &[u16], target: &[u8]) {
     let mut inverses = [46u8; INVERSES];
     let mut short = [46u8; SHORT_INVERSES];
     just_enough(
+        output,
         bytes,
         ends,
         target,
@@ -318,8 +361,9 @@ fn in_largest_tables(bytes: &[u8], ends: &[u16], target: &[u8]) {
         &mut second,
         &mut none,
         &mut inverses,
-    );
+    )?;
     just_enough(
+        output,
         bytes,
         ends,
         target,
@@ -327,8 +371,9 @@ fn in_largest_tables(bytes: &[u8], ends: &[u16], target: &[u8]) {
         &mut second,
         &mut one,
         &mut short,
-    );
+    )?;
     one_entry_less(
+        output,
         bytes,
         ends,
         target,
@@ -336,8 +381,9 @@ fn in_largest_tables(bytes: &[u8], ends: &[u16], target: &[u8]) {
         &mut less,
         &mut one,
         &mut inverses,
-    );
+    )?;
     just_enough(
+        output,
         bytes,
         ends,
         target,
@@ -345,8 +391,8 @@ fn in_largest_tables(bytes: &[u8], ends: &[u16], target: &[u8]) {
         &mut second,
         &mut one,
         &mut inverses,
-    );
-    factors(bytes, ends, &inverses);
+    )?;
+    factors(output, bytes, ends, &inverses)
 }
 
 // The ends of 64 generators of 5 letters each.
@@ -358,22 +404,30 @@ const FIVES: [u16; GENERATORS] = [
 ];
 
 // The largest m: 64 times SRSRS, with 320 letters, and 512 of the inverses.
-fn sixty_four() {
+fn sixty_four(output: &mut impl Write) -> io::Result<()> {
     let ends = FIVES;
     in_largest_tables(
+        output,
         b"SRSRSSRSRSSRSRSSRSRSSRSRSSRSRSSRSRSSRSRSSRSRSSRSRSSRSRSSRSRSSRSRSSRSRSSRSRSSRSRSSRSRSSRSRSSRSRSSRSRSSRSRSSRSRSSRSRSSRSRSSRSRSSRSRSSRSRSSRSRSSRSRSSRSRSSRSRSSRSRSSRSRSSRSRSSRSRSSRSRSSRSRSSRSRSSRSRSSRSRSSRSRSSRSRSSRSRSSRSRSSRSRSSRSRSSRSRSSRSRSSRSRSSRSRSSRSRSSRSRSSRSRSSRSRSSRSRSSRSRSSRSRSSRSRSSRSRSSRSRSSRSRSSRSRSSRSRSSRSRS",
         &ends,
         b"SSRSSRSS",
-    );
+    )
 }
 
 // Of all that is lent too little.
-fn too_little(bytes: &[u8], ends: &[u16], target: &[u8], n: u16) {
+fn too_little(
+    output: &mut impl Write,
+    bytes: &[u8],
+    ends: &[u16],
+    target: &[u8],
+    n: u16,
+) -> io::Result<()> {
     let mut first = [65535u16; TOO_SHORT];
     let mut second = [65535u16; TOO_SHORT];
     let mut witness = [255u8; SHORT_WITNESS];
     let mut inverses = [46u8; SHORT_INVERSES];
     judge(
+        output,
         bytes,
         ends,
         target,
@@ -382,59 +436,70 @@ fn too_little(bytes: &[u8], ends: &[u16], target: &[u8], n: u16) {
         &mut second,
         &mut witness,
         &mut inverses,
-    );
+    )?;
+    Ok(())
 }
 
 // At first the answer to every question from 7 to 15 is no, and then from call to call one more is yes. Of question 14 the last call answers yes for the
 // witness, and no for the inverse slice.
-fn lowest_of_many() {
+fn lowest_of_many(output: &mut impl Write) -> io::Result<()> {
     let far_too_many = [88u8; TOO_MANY_LETTERS];
     let too_many_ends = [0u16; TOO_MANY_GENERATORS];
-    too_little(&far_too_many, &too_many_ends, &far_too_many, 1001);
+    too_little(output, &far_too_many, &too_many_ends, &far_too_many, 1001)?;
     let wrong_ends = [0u16; GENERATORS];
-    too_little(&far_too_many, &wrong_ends, &far_too_many, 1001);
+    too_little(output, &far_too_many, &wrong_ends, &far_too_many, 1001)?;
     let wrong_letters = [88u8; LETTERS];
-    too_little(&wrong_letters, &wrong_ends, &far_too_many, 1001);
-    too_little(&wrong_letters, &wrong_ends, &wrong_letters, 1001);
+    too_little(output, &wrong_letters, &wrong_ends, &far_too_many, 1001)?;
+    too_little(output, &wrong_letters, &wrong_ends, &wrong_letters, 1001)?;
     let falling = [2u16, 1, 3];
-    too_little(b"YYY", &falling, b"X", 1001);
+    too_little(output, b"YYY", &falling, b"X", 1001)?;
     let ends = [4096u16; GENERATORS];
-    too_little(&wrong_letters, &ends, &wrong_letters, 1001);
+    too_little(output, &wrong_letters, &ends, &wrong_letters, 1001)
 }
 
-fn lowest_of_the_rest() {
+fn lowest_of_the_rest(output: &mut impl Write) -> io::Result<()> {
     let long = [2u16, 83];
     too_little(
+        output,
         b"SRRSSRSSRSSRSSRSSRSSRSSRSSRSSRSSRSSRSSRSSRSSRSSRSSRSSRSSRSSRSSRSSRSSRSSRSSRSSRSSRSS",
         &long,
         b"RSRX",
         1001,
-    );
+    )?;
     too_little(
+        output,
         b"SRRSSRSSRSSRSSRSSRSSRSSRSSRSSRSSRSSRSSRSSRSSRSSRSSRSSRSSRSSRSSRSSRSSRSSRSSRSSRSSRSS",
         &long,
         b"RSSRSSRSSRSSRSSRSSRSSRSSRSSRSSRSSRSSRSSRSSRSSRSSRSSRSSRSSRSSRSSRSSRSSRSSRSSRSSRSS",
         1001,
-    );
+    )?;
     let ends = [2u16];
     too_little(
+        output,
         b"SR",
         &ends,
         b"RSSRSSRSSRSSRSSRSSRSSRSSRSSRSSRSSRSSRSSRSSRSSRSSRSSRSSRSSRSSRSSRSSRSSRSSRSSRSSRSS",
         1001,
-    );
-    too_little(b"SR", &ends, b"SRSRSR", 1001);
-    too_little(b"SR", &ends, b"SRSRSR", 1000);
-    too_little(b"SR", &ends, b"SRSRSR", 999);
+    )?;
+    too_little(output, b"SR", &ends, b"SRSRSR", 1001)?;
+    too_little(output, b"SR", &ends, b"SRSRSR", 1000)?;
+    too_little(output, b"SR", &ends, b"SRSRSR", 999)
 }
 
 // A verdict, and then the factors.
-fn with_factors(bytes: &[u8], ends: &[u16], target: &[u8], n: u16) {
+fn with_factors(
+    output: &mut impl Write,
+    bytes: &[u8],
+    ends: &[u16],
+    target: &[u8],
+    n: u16,
+) -> io::Result<()> {
     let mut first = [65535u16; MIDDLE_TABLE];
     let mut second = [65535u16; MIDDLE_TABLE];
     let mut witness = [255u8; WITNESS];
     let mut inverses = [46u8; INVERSES];
     judge(
+        output,
         bytes,
         ends,
         target,
@@ -443,66 +508,70 @@ fn with_factors(bytes: &[u8], ends: &[u16], target: &[u8], n: u16) {
         &mut second,
         &mut witness,
         &mut inverses,
-    );
-    factors(bytes, ends, &inverses);
+    )?;
+    factors(output, bytes, ends, &inverses)
 }
 
 // The factors of S, SR, SR to the 40th and an empty generator; some by a slice that was overwritten, and by one that is too short.
-fn factors_of_four() {
+fn factors_of_four(output: &mut impl Write) -> io::Result<()> {
     let bytes =
         b"SSRSRSRSRSRSRSRSRSRSRSRSRSRSRSRSRSRSRSRSRSRSRSRSRSRSRSRSRSRSRSRSRSRSRSRSRSRSRSRSRSR";
     let ends = [1u16, 3, 83, 83];
-    with_factors(bytes, &ends, b"SRSR", 2);
+    with_factors(output, bytes, &ends, b"SRSR", 2)?;
     let overwritten = [46u8; INVERSES];
-    factor(bytes, &ends, &overwritten, 2);
-    factor(bytes, &ends, &overwritten, 129);
+    factor(output, bytes, &ends, &overwritten, 2)?;
+    factor(output, bytes, &ends, &overwritten, 129)?;
     let short = [46u8; SHORT_INVERSES];
-    factor(bytes, &ends, &short, 1);
-    factor(bytes, &ends, &short, 129);
+    factor(output, bytes, &ends, &short, 1)?;
+    factor(output, bytes, &ends, &short, 129)?;
+    Ok(())
 }
 
 // Generators that are not reduced are shown as they are given, their inverses reduced.
-fn factors_of_unreduced() {
+fn factors_of_unreduced(output: &mut impl Write) -> io::Result<()> {
     let ends = [5u16, 9];
-    with_factors(b"RSSSRSSSS", &ends, b"", 0);
+    with_factors(output, b"RSSSRSSSS", &ends, b"", 0)
 }
 
 // Lists that are refused by questions 7 to 11 have no factor, nor has the empty list.
-fn factors_of_refused() {
+fn factors_of_refused(output: &mut impl Write) -> io::Result<()> {
     let inverses = [46u8; INVERSES];
     let too_many_ends = [1u16; TOO_MANY_GENERATORS];
-    factor(b"R", &too_many_ends, &inverses, 0);
+    factor(output, b"R", &too_many_ends, &inverses, 0)?;
     let too_many = [82u8; TOO_MANY_LETTERS];
     let too_far = [4097u16];
-    factor(&too_many, &too_far, &inverses, 0);
+    factor(output, &too_many, &too_far, &inverses, 0)?;
     let falling = [2u16, 1, 3];
-    factor(b"RSS", &falling, &inverses, 0);
+    factor(output, b"RSS", &falling, &inverses, 0)?;
     let two = [2u16, 3];
-    factor(b"RSs", &two, &inverses, 0);
+    factor(output, b"RSs", &two, &inverses, 0)?;
     let long = [2u16, 83];
     factor(
+        output,
         b"SRRSSRSSRSSRSSRSSRSSRSSRSSRSSRSSRSSRSSRSSRSSRSSRSSRSSRSSRSSRSSRSSRSSRSSRSSRSSRSSRSS",
         &long,
         &inverses,
         128,
-    );
+    )?;
     let none = [0u16; 0];
-    factor(b"", &none, &inverses, 0);
-    factor(b"", &none, &inverses, 128);
+    factor(output, b"", &none, &inverses, 0)?;
+    factor(output, b"", &none, &inverses, 128)?;
+    Ok(())
 }
 
-fn main() {
-    worked_values();
-    empty_words();
-    relations();
-    whole_square();
-    firsts();
-    powers_of_t();
-    four_generators();
-    sixty_four();
-    lowest_of_many();
-    lowest_of_the_rest();
-    factors_of_four();
-    factors_of_unreduced();
-    factors_of_refused();
+fn main(rt: HostRuntime) -> io::Result<()> {
+    let output = &mut rt.stdout();
+    worked_values(output)?;
+    empty_words(output)?;
+    relations(output)?;
+    whole_square(output)?;
+    firsts(output)?;
+    powers_of_t(output)?;
+    four_generators(output)?;
+    sixty_four(output)?;
+    lowest_of_many(output)?;
+    lowest_of_the_rest(output)?;
+    factors_of_four(output)?;
+    factors_of_unreduced(output)?;
+    factors_of_refused(output)
 }

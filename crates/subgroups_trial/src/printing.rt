@@ -1,38 +1,42 @@
 // What the trial prints with: a verdict, and of a factor the call and the part.
 use engine::Verdict;
 use showing::number;
+use std::io;
+use std::io::Write;
 use subgroups::Part;
 
-pub(crate) fn verdict(answer: Verdict) {
+pub(crate) fn verdict(output: &mut impl Write, answer: Verdict) -> io::Result<()> {
     match answer {
         Verdict::Member(count) => {
-            io::write_all(1, b"member");
-            number(count.0);
+            write!(output, "member")?;
+            number(output, count.0)
         }
-        Verdict::None => {
-            io::write_all(1, b"none");
-        }
-        Verdict::Refused(refusal) => showing::refusal(refusal),
+        Verdict::None => write!(output, "none"),
+        Verdict::Refused(refusal) => showing::refusal(output, refusal),
     }
 }
 
 // The list, the length of the inverse slice, and the factor's number.
-pub(crate) fn factor(bytes: &[u8], ends: &[u16], inverses: usize, factor: u8) {
-    showing::lists::list(bytes, ends);
-    io::write_all(1, b", ");
-    io::print_decimal(1, inverses as u64);
-    io::write_all(1, b" bytes, factor");
-    number(factor as u16);
-    io::write_all(1, b": ");
+pub(crate) fn factor(
+    output: &mut impl Write,
+    bytes: &[u8],
+    ends: &[u16],
+    inverses: usize,
+    factor: u8,
+) -> io::Result<()> {
+    showing::lists::list(output, bytes, ends)?;
+    write!(output, ", {inverses} bytes, factor")?;
+    number(output, factor as u16)?;
+    write!(output, ": ")
 }
 
 // Of which slice, and from where to where.
-pub(crate) fn part(part: Part) {
+pub(crate) fn part(output: &mut impl Write, part: Part) -> io::Result<()> {
     if part.inverse {
-        io::write_all(1, b"inverse");
+        write!(output, "inverse")?;
     } else {
-        io::write_all(1, b"given");
+        write!(output, "given")?;
     }
-    number(part.start);
-    number(part.end);
+    number(output, part.start)?;
+    number(output, part.end)
 }

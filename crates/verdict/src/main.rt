@@ -1,6 +1,9 @@
 // One query card on standard input, one line on standard output. Where no card comes, or the line is not taken, one line on standard error says so: a
 // program ends with no status of its own.
+#![tactic(auto)]
+
 mod reading;
+mod telling;
 mod waiting;
 
 use reading::Card;
@@ -14,36 +17,28 @@ const ENTRIES: usize = 16384;
 
 const FACTORS: usize = limits::WITNESS_ROOM;
 
-fn answer(card: &[u8]) {
+fn answer(rt: &HostRuntime, card: &[u8]) {
     let mut first = [0u16; ENTRIES];
     let mut second = [0u16; ENTRIES];
     let mut witness = [0u8; FACTORS];
     let answer = cards::answer_card(card, &mut first, &mut second, &mut witness);
-    match showing::line(answer, &witness) {
+    match showing::line(&mut rt.stdout(), answer, &witness) {
         Printed::Whole => {}
-        Printed::FactorsMissing => {
-            io::write_all(2, b"verdict: the witness lacks factors\n");
-        }
-        Printed::TooLong => {
-            io::write_all(2, b"verdict: the line is too long\n");
-        }
-        Printed::Failed => {
-            os::fail(b"verdict: the line cannot be written");
+        Printed::FactorsMissing => telling::tell(rt, "the witness lacks factors"),
+        Printed::TooLong => telling::tell(rt, "the line is too long"),
+        Printed::Failed(error) => {
+            telling::tell_failure(rt, rt.alloc(), "the line cannot be written", error);
         }
     }
 }
 
-fn main() {
+fn main(rt: HostRuntime) {
     let mut card = [0u8; CARD];
-    match reading::read_card(&mut card) {
-        Card::Bytes(used) => {
-            answer(&card[..used]);
+    match reading::read_card(&rt, &mut rt.stdin(), &mut card) {
+        Card::Bytes(used) => answer(&rt, &card[..used]),
+        Card::Failed(error) => {
+            telling::tell_failure(&rt, rt.alloc(), "standard input cannot be read", error);
         }
-        Card::Failed => {
-            os::fail(b"verdict: standard input cannot be read");
-        }
-        Card::Late => {
-            io::write_all(2, b"verdict: nothing came for 10 seconds\n");
-        }
+        Card::Late => telling::tell(&rt, "nothing came for 10 seconds"),
     }
 }

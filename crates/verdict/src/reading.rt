@@ -1,19 +1,21 @@
 // A card from standard input, to its end. A read that fails is no end: one that a signal interrupts, or for which nothing is there yet, is made again for
 // a while, and any other failure is told.
 ghost use Rattle.std.specs.Prelude.{◌≡◌, ◌≤◌, length, take};
-ghost use Rattle.verdict.specs.Reading.{Reads, Turns, Ends, settled as settled_of};
+ghost use Rattle.verdict.specs.Reading.{Reads, Takes, Turns, Adds, Ends, IsRead, settled as settled_of};
 
 use crate::waiting;
+use std::io;
+use std::io::{ErrorKind, Read};
+use std::time::Clock;
 
 // How many pauses may pass in which nothing comes: 10 seconds of them.
 const PAUSES: usize = 1000;
 
-// How many bytes came before the end, or before there was no more room; that a read failed, and then the system's errno says why; or that nothing more came
-// in all PAUSES.
+// How many bytes came before the end, or before there was no more room; that a read failed, and why; or that nothing more came in all PAUSES.
 #[derive(Drop)]
 pub enum Card {
     Bytes(usize),
-    Failed,
+    Failed(io::Error),
     Late,
 }
 
@@ -23,7 +25,7 @@ enum Got {
     Bytes(usize),
     End,
     NotYet,
-    Failed,
+    Failed(io::Error),
 }
 
 // What a turn leaves: how many bytes there are by now, or that it was the last.
@@ -33,74 +35,69 @@ enum Turn {
     Over(Card),
 }
 
-fn read_some(room: &mut [u8]) -> Got
-    ensures { Reads (length room.old) result }
+// One read, where there is room.
+fn read_some<R: Read>(input: &mut R, room: &mut [u8]) -> Got
+    ensures reads { Reads (length room.old) result }
+    ensures takes { Takes (R.remaining input.old) (R.remaining input.new) room.new result }
 {
-    let got = libc::read(0, room);
-    let count = io::count(got, room);
-    if count > 0 {
-        return Got::Bytes(count);
+    match input.read(room) {
+        Ok(0) => Got::End,
+        Ok(count) => Got::Bytes(count),
+        Err(error) => match error.kind() {
+            ErrorKind::Interrupted | ErrorKind::WouldBlock => Got::NotYet,
+            _ => Got::Failed(error),
+        },
     }
-    if got == 0 {
-        return Got::End;
-    }
-    let error = os::errno();
-    if error == libc::EINTR {
-        return Got::NotYet;
-    }
-    if error == libc::EAGAIN {
-        return Got::NotYet;
-    }
-    Got::Failed
 }
 
-fn settled(got: Got) -> bool
-    ensures { result ≡ settled_of got }
+fn settled(got: &Got) -> bool
+    ensures { result ≡ settled_of got.now }
 {
     match got {
         Got::NotYet => false,
         Got::Bytes(_) => true,
         Got::End => true,
-        Got::Failed => true,
+        Got::Failed(_) => true,
     }
 }
 
 // Reads until something comes, with a pause after each read that gives nothing yet.
-fn read_ready(room: &mut [u8]) -> Got
-    ensures { Reads (length room.old) result }
+fn read_ready<R: Read>(clock: &impl Clock, input: &mut R, room: &mut [u8]) -> Got
+    ensures reads { Reads (length room.old) result }
+    ensures takes { Takes (R.remaining input.old) (R.remaining input.new) room.new result }
 {
-    let mut left = PAUSES;
-    while left > 0 {
-        let got = read_some(room);
-        if settled(got) {
+    for _ in 0..PAUSES {
+        let got = read_some(input, room);
+        if settled(&got) {
             return got;
         }
-        waiting::pause();
-        left -= 1;
+        waiting::pause(clock);
     }
-    read_some(room)
+    read_some(input, room)
 }
 
 // One read behind the bytes that are there.
-fn take_turn(card: &mut [u8], used: usize) -> Turn
+fn take_turn<R: Read>(clock: &impl Clock, input: &mut R, card: &mut [u8], used: usize) -> Turn
     requires { used ≤ length card.old }
     ensures turns { Turns (length card.old) used result }
+    ensures adds { Adds (R.remaining input.old) (R.remaining input.new) used card.new result }
     ensures card_unchanged { take used card.new ≡ take used card.old }
 {
-    match read_ready(&mut card[used..]) {
+    match read_ready(clock, input, &mut card[used..]) {
         Got::Bytes(count) => Turn::On(used + count),
         Got::End => Turn::Over(Card::Bytes(used)),
         Got::NotYet => Turn::Over(Card::Late),
-        Got::Failed => Turn::Over(Card::Failed),
+        Got::Failed(error) => Turn::Over(Card::Failed(error)),
     }
 }
 
-pub fn read_card(card: &mut [u8]) -> Card
-    ensures { Ends (length card.old) result }
+pub fn read_card<R: Read>(clock: &impl Clock, input: &mut R, card: &mut [u8]) -> Card
+    ensures ends { Ends (length card.old) result }
+    ensures is_read { IsRead (R.remaining input.old) (R.remaining input.new) card.new result }
 {
     let mut used = 0;
     while used < card.len() {
-        match take_turn(card, used) {
+        match take_turn(clock, input, card, used) {
             Turn::Over(end) => {
                 return end;
             }

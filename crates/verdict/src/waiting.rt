@@ -1,17 +1,10 @@
 // A pause between two tries of what is not ready yet.
+use std::thread;
+use std::time::{Clock, Duration};
 
-// 10 milliseconds, in nanoseconds.
-const PAUSE: i64 = 10000000;
+// In milliseconds.
+const PAUSE: u64 = 10;
 
-// The system wants a place for what is left of a pause that a signal cuts short. None is taken up again: what was waited for is tried anew.
-pub fn pause() {
-    let asked = libc::types::timespec {
-        tv_sec: 0,
-        tv_nsec: PAUSE,
-    };
-    let mut left = libc::types::timespec {
-        tv_sec: 0,
-        tv_nsec: 0,
-    };
-    libc::nanosleep(&asked, &mut left);
+pub fn pause(clock: &impl Clock) {
+    thread::sleep(clock, Duration::from_millis(PAUSE));
 }

@@ -1,5 +1,7 @@
 // Worked values and edges of the calls on words, one line each: the call, the answer, and the first bytes of the lent slice, which
 // was full of dots. What it must print stands in `stdout`.
+#![tactic(auto)]
+
 ghost use Rattle.std.specs.Prelude.{◌≡◌, ◌+◌, ◌*◌, ◌^◌, ◌<◌, length};
 ghost use Rattle.words.specs.Word.{nf, inverse};
 ghost use Rattle.words.specs.Bytes.{word as word_of, bytes};
@@ -7,94 +9,92 @@ ghost use Rattle.refusals.specs.Questions.{of_word};
 ghost use Rattle.words.specs.Calls.{written};
 ghost use Rattle.words_trial.specs.Period.{byte_in, next_column, with_s};
 
+use std::io;
+use std::io::Write;
 use words::{Letters, Reduction, Tested, Written};
 
-fn print_call(call: &[u8], word: &[u8]) {
-    io::write_all(1, call);
-    io::write_all(1, b" '");
-    showing::word(word);
-    io::write_all(1, b"': ");
+fn print_call(output: &mut impl Write, call: &[u8], word: &[u8]) -> io::Result<()> {
+    output.write_all(call)?;
+    write!(output, " '")?;
+    showing::word(output, word)?;
+    write!(output, "': ")
 }
 
-fn print_length(letters: Letters) {
-    io::write_all(1, b"length");
-    showing::number(letters.0);
+fn print_length(output: &mut impl Write, letters: Letters) -> io::Result<()> {
+    write!(output, "length")?;
+    showing::number(output, letters.0)
 }
 
-fn print_slice(out: &[u8]) {
-    io::write_all(1, b", '");
-    showing::word(out);
-    io::write_all(1, b"'\n");
+fn print_slice(output: &mut impl Write, out: &[u8]) -> io::Result<()> {
+    write!(output, ", '")?;
+    showing::word(output, out)?;
+    writeln!(output, "'")
 }
 
-fn print_reduction(answer: Reduction) {
+fn print_reduction(output: &mut impl Write, answer: Reduction) -> io::Result<()> {
     match answer {
         Reduction::Done(account) => {
-            print_length(account.kept);
-            io::write_all(1, b", pairs");
-            showing::number(account.pairs);
-            io::write_all(1, b", triples");
-            showing::number(account.triples);
+            print_length(output, account.kept)?;
+            write!(output, ", pairs")?;
+            showing::number(output, account.pairs)?;
+            write!(output, ", triples")?;
+            showing::number(output, account.triples)
         }
-        Reduction::Refused(refusal) => showing::refusal(refusal),
+        Reduction::Refused(refusal) => showing::refusal(output, refusal),
     }
 }
 
-fn print_written(answer: Written) {
+fn print_written(output: &mut impl Write, answer: Written) -> io::Result<()> {
     match answer {
-        Written::Length(letters) => print_length(letters),
-        Written::Refused(refusal) => showing::refusal(refusal),
+        Written::Length(letters) => print_length(output, letters),
+        Written::Refused(refusal) => showing::refusal(output, refusal),
     }
 }
 
-fn reduce(word: &[u8], out: &mut [u8])
+fn reduce(output: &mut impl Write, word: &[u8], out: &mut [u8]) -> io::Result<()>
     ensures { out.new ≡ written (of_word word.now (1 * length word.now) (length out.old)) (bytes (nf (word_of word.now))) out.old }
 {
     let answer = words::reduce(word, out);
-    print_call(b"reduce", word);
-    print_reduction(answer);
-    print_slice(out);
+    print_call(output, b"reduce", word)?;
+    print_reduction(output, answer)?;
+    print_slice(output, out)
 }
 
-fn invert(word: &[u8], out: &mut [u8])
+fn invert(output: &mut impl Write, word: &[u8], out: &mut [u8]) -> io::Result<()>
     ensures { out.new ≡ written (of_word word.now (2 * length word.now) (length out.old)) (bytes (nf (inverse (word_of word.now)))) out.old }
 {
     let answer = words::invert(word, out);
-    print_call(b"invert", word);
-    print_written(answer);
-    print_slice(out);
+    print_call(output, b"invert", word)?;
+    print_written(output, answer)?;
+    print_slice(output, out)
 }
 
-fn is_normal(word: &[u8]) {
-    print_call(b"is_normal", word);
+fn is_normal(output: &mut impl Write, word: &[u8]) -> io::Result<()> {
+    print_call(output, b"is_normal", word)?;
     match words::is_normal(word) {
-        Tested::Normal => {
-            io::write_all(1, b"yes");
-        }
-        Tested::NotNormal => {
-            io::write_all(1, b"no");
-        }
-        Tested::Refused(refusal) => showing::refusal(refusal),
+        Tested::Normal => write!(output, "yes")?,
+        Tested::NotNormal => write!(output, "no")?,
+        Tested::Refused(refusal) => showing::refusal(output, refusal)?,
     }
-    io::write_all(1, b"\n");
+    writeln!(output)
 }
 
 // Reduces and inverts a word into slices of twelve dots.
-fn short(word: &[u8]) {
+fn short(output: &mut impl Write, word: &[u8]) -> io::Result<()> {
     let mut reduced = [46u8; 12];
-    reduce(word, &mut reduced);
+    reduce(output, word, &mut reduced)?;
     let mut inverted = [46u8; 12];
-    invert(word, &mut inverted);
-    is_normal(word);
+    invert(output, word, &mut inverted)?;
+    is_normal(output, word)
 }
 
 // The same into slices that are just long enough for a word of as many letters as question 8 lets pass.
-fn long(word: &[u8]) {
+fn long(output: &mut impl Write, word: &[u8]) -> io::Result<()> {
     let mut reduced = [46u8; limits::WORD_LETTERS];
-    reduce(word, &mut reduced);
+    reduce(output, word, &mut reduced)?;
     let mut inverted = [46u8; limits::INVERSE_ROOM];
-    invert(word, &mut inverted);
-    is_normal(word);
+    invert(output, word, &mut inverted)?;
+    is_normal(output, word)
 }
 
 // What stands in a column, where b stood: S, unless the column is the first.
@@ -132,64 +132,65 @@ fn put_s(word: &mut [u8], period: usize)
     }
 }
 
-fn longest_words() {
+fn longest_words(output: &mut impl Write) -> io::Result<()> {
     let all_r = [82u8; limits::WORD_LETTERS];
-    long(&all_r);
+    long(output, &all_r)?;
     let all_s = [83u8; limits::WORD_LETTERS];
-    long(&all_s);
+    long(output, &all_s)?;
     let mut alternating = [82u8; limits::WORD_LETTERS];
     put_s(&mut alternating, 2);
-    long(&alternating);
+    long(output, &alternating)?;
     let mut shrinking = [82u8; limits::WORD_LETTERS];
     put_s(&mut shrinking, 3);
-    long(&shrinking);
+    long(output, &shrinking)?;
     let mut vanishing = [82u8; limits::WORD_LETTERS];
     put_s(&mut vanishing, 4);
-    long(&vanishing);
+    long(output, &vanishing)?;
     let too_long = [82u8; limits::WORD_LETTERS + 1];
-    long(&too_long);
+    long(output, &too_long)
 }
 
-fn refused_letters() {
-    short(b"TRS");
-    short(b"RTS");
-    short(b"RST");
-    short(b"RS?T");
+fn refused_letters(output: &mut impl Write) -> io::Result<()> {
+    short(output, b"TRS")?;
+    short(output, b"RTS")?;
+    short(output, b"RST")?;
+    short(output, b"RS?T")?;
     let mut bad_last = [82u8; limits::WORD_LETTERS];
     bad_last[limits::WORD_LETTERS - 1] = 88;
-    long(&bad_last);
+    long(output, &bad_last)?;
     let mut bad_and_too_long = [82u8; limits::WORD_LETTERS + 1];
     bad_and_too_long[0] = 88;
-    long(&bad_and_too_long);
+    long(output, &bad_and_too_long)
 }
 
-fn room() {
+fn room(output: &mut impl Write) -> io::Result<()> {
     let mut just = [46u8; 4];
-    reduce(b"RRSS", &mut just);
+    reduce(output, b"RRSS", &mut just)?;
     let mut one_short = [46u8; 3];
-    reduce(b"RRSS", &mut one_short);
+    reduce(output, b"RRSS", &mut one_short)?;
     let mut twice = [46u8; 4];
-    invert(b"SR", &mut twice);
+    invert(output, b"SR", &mut twice)?;
     let mut twice_less_one = [46u8; 3];
-    invert(b"SR", &mut twice_less_one);
+    invert(output, b"SR", &mut twice_less_one)?;
     let mut none = [46u8; 0];
-    reduce(b"", &mut none);
-    reduce(b"X", &mut none);
+    reduce(output, b"", &mut none)?;
+    reduce(output, b"X", &mut none)
 }
 
-fn main() {
-    short(b"");
-    short(b"R");
-    short(b"S");
-    short(b"RR");
-    short(b"SSS");
-    short(b"SSSS");
-    short(b"RSSSR");
-    short(b"SRRSS");
-    short(b"SR");
-    short(b"SSR");
-    short(b"RSSRS");
-    longest_words();
-    refused_letters();
-    room();
+fn main(rt: HostRuntime) -> io::Result<()> {
+    let output = &mut rt.stdout();
+    short(output, b"")?;
+    short(output, b"R")?;
+    short(output, b"S")?;
+    short(output, b"RR")?;
+    short(output, b"SSS")?;
+    short(output, b"SSSS")?;
+    short(output, b"RSSSR")?;
+    short(output, b"SRRSS")?;
+    short(output, b"SR")?;
+    short(output, b"SSR")?;
+    short(output, b"RSSRS")?;
+    longest_words(output)?;
+    refused_letters(output)?;
+    room(output)
 }
