@@ -1,4 +1,4 @@
-/* Bounded products in the modular group, for C and C++. Link target/staticlib/libkernelhop.a, which `rt staticlib kernelhop` makes; kernelhop_version says
+/* Bounded products in the modular group, for C and C++. Link target/staticlib/libkernelhop.a, which bindings/library makes; kernelhop_version says
    which release it is.
 
    Words are in the letters R (byte 82) and S (byte 83), where RR and SSS vanish and no other rule holds. A lent slice is a pointer and its length,

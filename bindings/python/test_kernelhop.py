@@ -786,7 +786,7 @@ class Refusals(unittest.TestCase):
 
 class Module(unittest.TestCase):
     def test_the_release_that_the_contract_says(self):
-        self.assertEqual(kernelhop.__version__, ".".join(re.search(r"r ≡ release (\d+) (\d+) (\d+)", text_of(CONTRACTS)).groups()))
+        self.assertEqual(kernelhop.__version__, ".".join(re.search(r"result ≡ release (\d+) (\d+) (\d+)", text_of(CONTRACTS)).groups()))
 
     def test_public_names(self):
         for name in kernelhop.__all__:

@@ -1,4 +1,4 @@
-//! Finds libkernelhop.a, which `rt staticlib kernelhop` makes: in the folder that KERNELHOP_LIB_DIR names, or else in this repository's target/.
+//! Finds libkernelhop.a, which bindings/library makes: in the folder that KERNELHOP_LIB_DIR names, or else in this repository's target/.
 
 use std::env;
 use std::path::{Path, PathBuf};
@@ -12,7 +12,7 @@ fn main() {
     let library = folder.join("libkernelhop.a");
     assert!(
         library.is_file(),
-        "{} is not there: run `rt staticlib kernelhop` in the repository, or set KERNELHOP_LIB_DIR to the folder that has libkernelhop.a",
+        "{} is not there: run bindings/library in the repository, or set KERNELHOP_LIB_DIR to the folder that has libkernelhop.a",
         library.display()
     );
     println!("cargo:rerun-if-changed={}", library.display());

@@ -673,7 +673,7 @@ fn a_verdict_while_a_thread_ends() {
 
 #[test]
 fn the_release_that_the_contract_says() {
-    let (_, behind) = CONTRACTS.split_once("r ≡ release ").unwrap();
+    let (_, behind) = CONTRACTS.split_once("result ≡ release ").unwrap();
     let numbers: Vec<_> = behind.split_whitespace().take(3).collect();
     assert_eq!(version(), numbers.join("."));
 }
