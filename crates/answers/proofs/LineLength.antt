@@ -4,13 +4,14 @@ use Prim.Native.Nat.{ℕ, zero, suc, ◌+◌, ◌*◌, ◌≤◌, ◌<◌}
 use native.Mathlib.Omega.{arith}
 use lib.ListN.{length, take, get_or, length-append}
 use Rattle.limits.specs.Limits.{most_factors}
+use Rattle.std.specs.Prelude.{Result, Ok, Err}
 use Rattle.refusals.specs.Questions.{number, place}
 use Rattle.refusals.specs.declared.Refusal.{Refusal}
 use Rattle.refusals.specs.declared.Refusal.TheVariants.{CardTooLong, BitMapWrong, FieldCut, SpareByte, EntryTooLarge, DeterminantNotOne, TooManyGenerators, TooManyLetters, EndsWrong, NotALetter, GeneratorTooLong, NormalFormTooLong, BoundTooLarge, OutputTooShort, TableTooShort, MatrixTooLarge}
 use Rattle.answers.specs.Line.{field, fields_of, said, line}
 use Rattle.answers.specs.Calls.{Shown, longest}
 use Rattle.answers.specs.declared.Answer.{Answer}
-use Rattle.answers.specs.declared.Answer.TheVariants.{Member, None, Refused}
+use Rattle.answers.specs.declared.Answer.TheVariants.{Member, None}
 use Rattle.answers.proofs.Decimals.{decimal_few}
 
 -- a factor is a byte, and takes a space and at most three digits
@@ -39,12 +40,12 @@ number_two_digits TableTooShort = omega arith
 number_two_digits MatrixTooLarge = omega arith
 
 -- `member`, a count of four digits, and four bytes for each factor
-said_short : (answer : Answer) (witness : List ℕ) → Shown answer witness → length (said answer witness) ≤ 11 + 4 * most_factors
-said_short (Member count) witness (few, bytes) =
+said_short : (answer : Result Answer Refusal) (witness : List ℕ) → Shown answer witness → length (said answer witness) ≤ 11 + 4 * most_factors
+said_short (Ok (Member count)) witness (few, bytes) =
     let factors = fields_of (take count.0 witness) in
     omega (arith, length-append (field count.0) factors, decimal_few 3 count.0 (omega arith), fields_short count.0 witness bytes)
-said_short (None n) witness h = omega (arith, decimal_few 4 n.0 (omega arith))
-said_short (Refused refusal) witness h =
+said_short (Ok (None n)) witness h = omega (arith, decimal_few 4 n.0 (omega arith))
+said_short (Err refusal) witness h =
     omega (
       arith,
       length-append (field (number refusal)) (field (place refusal)),
@@ -52,5 +53,5 @@ said_short (Refused refusal) witness h =
       decimal_few 19 (place refusal) (omega arith),
     )
 
-pub line_short : (answer : Answer) (witness : List ℕ) → Shown answer witness → length (line answer witness) ≤ longest
+pub line_short : (answer : Result Answer Refusal) (witness : List ℕ) → Shown answer witness → length (line answer witness) ≤ longest
 line_short answer witness h = rw length-append (omega (arith, said_short answer witness h))

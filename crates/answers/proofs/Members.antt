@@ -13,15 +13,17 @@ use lib.Dec.{leb, ltb}
 use lib.ListN.{length, take, drop, length-append}
 use lib.Seq.{take-append_seam}
 use borrow.Author.Tests.{le-leb, leb-true, lt-ltb, ltb-true}
+use Rattle.std.specs.Prelude.{Result, Ok, Err}
 use Rattle.refusals.specs.Telling.{pick}
+use Rattle.refusals.specs.declared.Refusal.{Refusal}
 use Rattle.slices.specs.Slices.{overwritten}
 use Rattle.words.specs.declared.Factors.{Factors}
 use Rattle.answers.specs.Line.{decimal, field, fields_of, member_name, line}
 use Rattle.answers.specs.Calls.{witnessed, left, WritesLine}
 use Rattle.answers.specs.declared.Answer.{Answer}
-use Rattle.answers.specs.declared.Answer.TheVariants.{Member, None, Refused}
-use Rattle.answers.specs.declared.Lined.{Lined}
-use Rattle.answers.specs.declared.Lined.TheVariants.{Length, FactorsMissing}
+use Rattle.answers.specs.declared.Answer.TheVariants.{Member, None}
+use Rattle.answers.specs.declared.LineError.{LineError}
+use Rattle.answers.specs.declared.LineError.TheVariants.{FactorsMissing}
 use Rattle.answers.proofs.Room.{line_told}
 
 both_true : (a b : Bool) → pick a b false ≡ true → (a ≡ true) × (b ≡ true)
@@ -29,18 +31,18 @@ both_true true b e = (refl, e)
 both_true false b e = absurd (let z : ◌≡◌ {A = ℕ} 0 1 = cc in omega arith)
 
 module _ (count : Factors) (witness : List ℕ) where
-  module _ (there : witnessed (Member count) witness ≡ true) where
+  module _ (there : witnessed (Ok (Member count)) witness ≡ true) where
     pub witnessed_some : 1 ≤ count.0
     witnessed_some = ltb-true 0 count.0 (both_true (ltb 0 count.0) (leb count.0 (length witness)) there).0
 
     pub witnessed_bytes : count.0 ≤ length witness
     witnessed_bytes = leb-true count.0 (length witness) (both_true (ltb 0 count.0) (leb count.0 (length witness)) there).1
 
-  pub member_witnessed : 1 ≤ count.0 → count.0 ≤ length witness → witnessed (Member count) witness ≡ true
+  pub member_witnessed : 1 ≤ count.0 → count.0 ≤ length witness → witnessed (Ok (Member count)) witness ≡ true
   member_witnessed some bytes = rw (lt-ltb 0 count.0 some) (le-leb count.0 (length witness) bytes)
 
-pub member_0_missing : (witness before after : List ℕ) (r : Lined) → WritesLine (Member (record { 0 = 0 })) witness before r after
-    → (r ≡ FactorsMissing) × (after ≡ before)
+pub member_0_missing : (witness before after : List ℕ) (r : Result ℕ LineError) → WritesLine (Ok (Member (record { 0 = 0 }))) witness before r after
+    → (r ≡ Err FactorsMissing) × (after ≡ before)
 member_0_missing witness before after r writes = (writes.answer_is, writes.slice_is)
 
 -- ---- no line is `member 0`
@@ -58,8 +60,8 @@ fields_some (suc count) (b ∷ witness) some bytes = rw length-append (omega (ar
 abbrev pub member0 : List ℕ
 member0 = member_name ++ (field 0 ++ (10 ∷ []))
 
-line_not_member_0 : (answer : Answer) (witness : List ℕ) → witnessed answer witness ≡ true → line answer witness ≡ member0 → ⊥
-line_not_member_0 (Member count) witness there e =
+line_not_member_0 : (answer : Result Answer Refusal) (witness : List ℕ) → witnessed answer witness ≡ true → line answer witness ≡ member0 → ⊥
+line_not_member_0 (Ok (Member count)) witness there e =
     let factors = fields_of (take count.0 witness) in
     omega (
       arith,
@@ -69,14 +71,14 @@ line_not_member_0 (Member count) witness there e =
       decimal_some count.0,
       fields_some count.0 witness (witnessed_some count witness there) (witnessed_bytes count witness there),
     )
-line_not_member_0 (None n) witness there e = let z : ◌≡◌ {A = ℕ} 110 109 = cc in omega arith
-line_not_member_0 (Refused refusal) witness there e = let z : ◌≡◌ {A = ℕ} 114 109 = cc in omega arith
+line_not_member_0 (Ok (None n)) witness there e = let z : ◌≡◌ {A = ℕ} 110 109 = cc in omega arith
+line_not_member_0 (Err refusal) witness there e = let z : ◌≡◌ {A = ℕ} 114 109 = cc in omega arith
 
-pub no_member_0 : (answer : Answer) (witness before after : List ℕ) (len : ℕ) → WritesLine answer witness before (Length len) after → take len after ≡ member0 → ⊥
+pub no_member_0 : (answer : Result Answer Refusal) (witness before after : List ℕ) (len : ℕ) → WritesLine answer witness before (Ok len) after → take len after ≡ member0 → ⊥
 no_member_0 answer witness before after len writes e =
     let text = line answer witness in
     let (there, len_is, room) = line_told writes in
-    let slice : after ≡ overwritten text before = writes.slice_is ∙ ap (λ (l : Lined). left l text before) (sym writes.answer_is) in
+    let slice : after ≡ overwritten text before = writes.slice_is ∙ ap (λ (l : Result ℕ LineError). left l text before) (sym writes.answer_is) in
     let front : take len after ≡ text =
     ap (take len) slice ∙ ap (λ (k : ℕ). take k (overwritten text before)) len_is ∙ take-append_seam text (drop (length text) before) in
     line_not_member_0 answer witness there (sym front ∙ e)

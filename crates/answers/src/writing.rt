@@ -1,135 +1,126 @@
 // The text of a line, field behind field. A byte for which the slice has no room is counted and not stored, so a line is measured by writing it to a
 // slice that is too short. Every place is below 2 ^ 32: the longest line has 65,535 factors.
-ghost use Rattle.std.specs.Prelude.{true, ◌≡◌, [], ◌∷◌, ◌++◌, ◌+◌, ◌*◌, ◌%◌, ◌^◌, ◌≤◌, ◌<◌, length};
+ghost use Rattle.std.specs.Prelude.{Result, true, ◌≡◌, [], ◌∷◌, ◌++◌, ◌+◌, ◌*◌, ◌%◌, ◌^◌, ◌≤◌, ◌<◌, length};
 ghost use Rattle.refusals.specs.Questions.{number as number_of, place as place_of};
 ghost use Rattle.answers.specs.Line.{decimal, field, fields_of, member_name, none_name, refused_name, said as said_of, line as line_of};
 ghost use Rattle.answers.specs.Calls.{witnessed};
 ghost use Rattle.answers.specs.Storing.{Stores};
 
 use crate::Answer;
-use words::{Factors, Refusal};
-
-fn put_byte(byte: u8, out: &mut [u8], at: usize) -> usize
-    requires { at < 2 ^ 32 }
-    ensures { Stores (byte ∷ []) at out.old result out.new }
-{
-    if at < out.len() {
-        out[at] = byte;
-    }
-    at + 1
-}
-
-fn put(text: &[u8], out: &mut [u8], at: usize) -> usize
-    requires { at + length text.now < 2 ^ 32 }
-    ensures { Stores text.now at out.old result out.new }
-{
-    let mut end = at;
-    let mut i = 0;
-    while i < text.len() {
-        end = put_byte(text[i], out, end);
-        i += 1;
-    }
-    end
-}
+use words::Refusal;
 
 fn last_digit(n: u64) -> u8
     ensures { result ≡ 48 + n % 10 }
 {
-    48 + (n % 10) as u8
+    b'0' + (n % 10) as u8
 }
 
-// A number, which has at most 20 digits.
-fn put_decimal(n: u64, out: &mut [u8], at: usize) -> usize
-    requires { at + 20 < 2 ^ 32 }
-    ensures { Stores (decimal n) at out.old result out.new }
-{
-    if n < 10 {
-        return put_byte(last_digit(n), out, at);
-    }
-    let end = put_decimal(n / 10, out, at);
-    put_byte(last_digit(n), out, end)
+// The slice that a text is written to, and the place behind the text.
+#[derive(Drop)]
+struct Line<'a> {
+    out: &'a mut [u8],
+    end: usize,
 }
 
-// A space and a number.
-fn put_field(n: u64, out: &mut [u8], at: usize) -> usize
-    requires { at + 21 < 2 ^ 32 }
-    ensures stores { Stores (field n) at out.old result out.new }
-    ensures upper_bound { result ≤ at + 21 }
-{
-    let spaced = put_byte(32, out, at);
-    put_decimal(n, out, spaced)
-}
-
-fn put_fields(factors: &[u8], out: &mut [u8], at: usize) -> usize
-    requires { at + 21 * length factors.now < 2 ^ 32 }
-    ensures stores { Stores (fields_of factors.now) at out.old result out.new }
-    ensures upper_bound { result ≤ at + 21 * length factors.now }
-{
-    let mut end = at;
-    let mut i = 0;
-    while i < factors.len() {
-        end = put_field(factors[i] as u64, out, end);
-        i += 1;
-    }
-    end
-}
-
-// A name and a number.
-fn put_named(name: &[u8], n: u64, out: &mut [u8]) -> usize
-    requires { length name.now < 2 ^ 16 }
-    ensures stores { Stores (name.now ++ field n) 0 out.old result out.new }
-    ensures upper_bound { result ≤ length name.now + 21 }
-{
-    let named = put(name, out, 0);
-    put_field(n, out, named)
-}
-
-fn member(factors: &[u8], out: &mut [u8]) -> usize
-    requires { length factors.now < 2 ^ 16 }
-    ensures stores { Stores (member_name ++ (field (length factors.now) ++ fields_of factors.now)) 0 out.old result out.new }
-    ensures upper_bound { result < 2 ^ 32 }
-{
-    let counted = put_named(b"member", factors.len() as u64, out);
-    put_fields(factors, out, counted)
-}
-
-fn none(n: Factors, out: &mut [u8]) -> usize
-    ensures stores { Stores (none_name ++ field n.0) 0 out.old result out.new }
-    ensures upper_bound { result < 2 ^ 32 }
-{
-    put_named(b"none", n.0 as u64, out)
-}
-
-fn refused(refusal: Refusal, out: &mut [u8]) -> usize
-    ensures stores { Stores (refused_name ++ (field (number_of refusal) ++ field (place_of refusal))) 0 out.old result out.new }
-    ensures upper_bound { result < 2 ^ 32 }
-{
-    let number = refusals::number(refusal) as u64;
-    let place = refusals::place(refusal) as u64;
-    let numbered = put_named(b"refused", number, out);
-    put_field(place, out, numbered)
-}
-
-// What stands before the byte that ends the line.
-fn said(answer: Answer, witness: &[u8], out: &mut [u8]) -> usize
-    requires { witnessed answer witness.now ≡ true }
-    ensures stores { Stores (said_of answer witness.now) 0 out.old result out.new }
-    ensures upper_bound { result < 2 ^ 32 }
-{
-    match answer {
-        Answer::Member(count) => {
-            let k = count.0 as usize;
-            member(&witness[..k], out)
+impl Line<'_> {
+    fn put_byte(&mut self, byte: u8)
+        requires { self.old.end < 2 ^ 32 }
+        ensures same_slice { self.new.out.ghost_name ≡ self.old.out.ghost_name }
+        ensures stores { Stores (byte ∷ []) self.old.end self.old.out.now self.new.end self.new.out.now }
+    {
+        if self.end < self.out.len() {
+            self.out[self.end] = byte;
         }
-        Answer::None(n) => none(n, out),
-        Answer::Refused(refusal) => refused(refusal, out),
+        self.end += 1;
+    }
+
+    fn put(&mut self, text: &[u8])
+        requires { self.old.end + length text.now < 2 ^ 32 }
+        ensures same_slice { self.new.out.ghost_name ≡ self.old.out.ghost_name }
+        ensures stores { Stores text.now self.old.end self.old.out.now self.new.end self.new.out.now }
+    {
+        for byte in text {
+            self.put_byte(*byte);
+        }
+    }
+
+    // A number, which has at most 20 digits.
+    fn put_decimal(&mut self, n: u64)
+        requires { self.old.end + 20 < 2 ^ 32 }
+        ensures same_slice { self.new.out.ghost_name ≡ self.old.out.ghost_name }
+        ensures stores { Stores (decimal n) self.old.end self.old.out.now self.new.end self.new.out.now }
+    {
+        if 10 <= n {
+            self.put_decimal(n / 10);
+        }
+        self.put_byte(last_digit(n));
+    }
+
+    // A space and a number.
+    fn put_field(&mut self, n: u64)
+        requires { self.old.end + 21 < 2 ^ 32 }
+        ensures same_slice { self.new.out.ghost_name ≡ self.old.out.ghost_name }
+        ensures stores { Stores (field n) self.old.end self.old.out.now self.new.end self.new.out.now }
+        ensures upper_bound { self.new.end ≤ self.old.end + 21 }
+    {
+        self.put_byte(b' ');
+        self.put_decimal(n);
+    }
+
+    fn put_fields(&mut self, factors: &[u8])
+        requires { self.old.end + 21 * length factors.now < 2 ^ 32 }
+        ensures same_slice { self.new.out.ghost_name ≡ self.old.out.ghost_name }
+        ensures stores { Stores (fields_of factors.now) self.old.end self.old.out.now self.new.end self.new.out.now }
+        ensures upper_bound { self.new.end ≤ self.old.end + 21 * length factors.now }
+    {
+        for factor in factors {
+            self.put_field(*factor as u64);
+        }
+    }
+
+    // What stands before the byte that ends the line.
+    fn put_said(&mut self, answer: Result<Answer, Refusal>, witness: &[u8])
+        requires witnessed { witnessed answer witness.now ≡ true }
+        requires empty { self.old.end ≡ 0 }
+        ensures same_slice { self.new.out.ghost_name ≡ self.old.out.ghost_name }
+        ensures stores { Stores (said_of answer witness.now) 0 self.old.out.now self.new.end self.new.out.now }
+        ensures upper_bound { self.new.end < 2 ^ 32 }
+    {
+        match answer {
+            Ok(Answer::Member(count)) => {
+                self.put(b"member");
+                self.put_field(count.0 as u64);
+                self.put_fields(&witness[..count.0 as usize]);
+            }
+            Ok(Answer::None(n)) => {
+                self.put(b"none");
+                self.put_field(n.0 as u64);
+            }
+            Err(refusal) => {
+                self.put(b"refused");
+                self.put_field(refusals::number(refusal) as u64);
+                self.put_field(refusals::place(refusal) as u64);
+            }
+        }
+    }
+
+    fn put_line(&mut self, answer: Result<Answer, Refusal>, witness: &[u8])
+        requires witnessed { witnessed answer witness.now ≡ true }
+        requires empty { self.old.end ≡ 0 }
+        ensures same_slice { self.new.out.ghost_name ≡ self.old.out.ghost_name }
+        ensures stores { Stores (line_of answer witness.now) 0 self.old.out.now self.new.end self.new.out.now }
+    {
+        self.put_said(answer, witness);
+        self.put_byte(b'\n');
     }
 }
 
-pub(crate) fn line(answer: Answer, witness: &[u8], out: &mut [u8]) -> usize
+// Writes the line, and answers how long it is.
+pub(crate) fn write(answer: Result<Answer, Refusal>, witness: &[u8], out: &mut [u8]) -> usize
     requires { witnessed answer witness.now ≡ true }
     ensures { Stores (line_of answer witness.now) 0 out.old result out.new }
 {
-    let end = said(answer, witness, out);
-    put_byte(10, out, end)
+    let mut line = Line { out, end: 0 };
+    line.put_line(answer, witness);
+    line.end
 }

@@ -6,32 +6,36 @@ ghost use Rattle.std.specs.Prelude.{◌≡◌, length};
 ghost use Rattle.answers.specs.Line.{line};
 ghost use Rattle.answers.specs.Calls.{lined, left};
 
-use answers::{Answer, Lined};
-use showing::Printed;
+use answers::{Answer, LineError};
+use showing::PrintError;
 use std::io;
 use std::io::Write;
 use words::{Factors, Refusal};
 
 // Prints the answer's line, or else why it is not printed.
-fn show(output: &mut impl Write, answer: Answer, witness: &[u8]) -> io::Result<()> {
+fn show(
+    output: &mut impl Write,
+    answer: Result<Answer, Refusal>,
+    witness: &[u8],
+) -> io::Result<()> {
     match showing::line(output, answer, witness) {
-        Printed::Whole => Ok(()),
-        Printed::FactorsMissing => writeln!(output, "factors missing"),
-        Printed::TooLong => writeln!(output, "too long"),
-        Printed::Failed(error) => Err(error),
+        Ok(()) => Ok(()),
+        Err(PrintError::FactorsMissing) => writeln!(output, "factors missing"),
+        Err(PrintError::TooLong) => writeln!(output, "too long"),
+        Err(PrintError::Failed(error)) => Err(error),
     }
 }
 
 fn show_member(output: &mut impl Write, count: u16, witness: &[u8]) -> io::Result<()> {
-    show(output, Answer::Member(Factors(count)), witness)
+    show(output, Ok(Answer::Member(Factors(count))), witness)
 }
 
 fn show_none(output: &mut impl Write, n: u16) -> io::Result<()> {
-    show(output, Answer::None(Factors(n)), b"")
+    show(output, Ok(Answer::None(Factors(n))), b"")
 }
 
 fn show_refused(output: &mut impl Write, refusal: Refusal) -> io::Result<()> {
-    show(output, Answer::Refused(refusal), b"")
+    show(output, Err(refusal), b"")
 }
 
 // A member has one factor or more, the first bytes of the witness; where it counts none, or the witness has fewer, there is no line.
@@ -82,16 +86,21 @@ fn last_refusals(output: &mut impl Write) -> io::Result<()> {
     show_refused(output, Refusal::MatrixTooLarge)
 }
 
-fn print_lined(output: &mut impl Write, lined: Lined) -> io::Result<()> {
+fn print_lined(output: &mut impl Write, lined: Result<usize, LineError>) -> io::Result<()> {
     match lined {
-        Lined::Length(len) => write!(output, "length {len}"),
-        Lined::TooShort => write!(output, "too short"),
-        Lined::FactorsMissing => write!(output, "factors missing"),
+        Ok(len) => write!(output, "length {len}"),
+        Err(LineError::TooShort) => write!(output, "too short"),
+        Err(LineError::FactorsMissing) => write!(output, "factors missing"),
     }
 }
 
 // Says how long the slice is and what `write_line` answers; then the whole slice as it is left, up to a bar.
-fn write(output: &mut impl Write, answer: Answer, witness: &[u8], out: &mut [u8]) -> io::Result<()>
+fn write(
+    output: &mut impl Write,
+    answer: Result<Answer, Refusal>,
+    witness: &[u8],
+    out: &mut [u8],
+) -> io::Result<()>
     ensures { out.new ≡ left (lined answer witness.now (length out.old)) (line answer witness.now) out.old }
 {
     let lined = answers::write_line(answer, witness, out);
@@ -108,21 +117,21 @@ fn member_written(output: &mut impl Write) -> io::Result<()> {
     let mut just = [46u8; 18];
     write(
         output,
-        Answer::Member(Factors(3)),
+        Ok(Answer::Member(Factors(3))),
         b"\x00\x0a\xc8",
         &mut just,
     )?;
     let mut one_short = [46u8; 17];
     write(
         output,
-        Answer::Member(Factors(3)),
+        Ok(Answer::Member(Factors(3))),
         b"\x00\x0a\xc8",
         &mut one_short,
     )?;
     let mut longer = [46u8; 24];
     write(
         output,
-        Answer::Member(Factors(3)),
+        Ok(Answer::Member(Factors(3))),
         b"\x00\x0a\xc8",
         &mut longer,
     )
@@ -131,50 +140,60 @@ fn member_written(output: &mut impl Write) -> io::Result<()> {
 // A slice that is long enough for the line of three factors, and a witness that has two, of which three are counted, or none.
 fn factors_missing(output: &mut impl Write) -> io::Result<()> {
     let mut longer = [46u8; 24];
-    write(output, Answer::Member(Factors(3)), b"\x00\x0a", &mut longer)?;
-    write(output, Answer::Member(Factors(0)), b"\x00\x0a", &mut longer)?;
+    write(
+        output,
+        Ok(Answer::Member(Factors(3))),
+        b"\x00\x0a",
+        &mut longer,
+    )?;
+    write(
+        output,
+        Ok(Answer::Member(Factors(0))),
+        b"\x00\x0a",
+        &mut longer,
+    )?;
     let mut none = [46u8; 0];
-    write(output, Answer::Member(Factors(1)), b"", &mut none)
+    write(output, Ok(Answer::Member(Factors(1))), b"", &mut none)
 }
 
 fn none_written(output: &mut impl Write) -> io::Result<()> {
     let mut just = [46u8; 11];
-    write(output, Answer::None(Factors(65535)), b"", &mut just)?;
+    write(output, Ok(Answer::None(Factors(65535))), b"", &mut just)?;
     let mut one_short = [46u8; 10];
-    write(output, Answer::None(Factors(65535)), b"", &mut one_short)?;
+    write(
+        output,
+        Ok(Answer::None(Factors(65535))),
+        b"",
+        &mut one_short,
+    )?;
     let mut longer = [46u8; 12];
-    write(output, Answer::None(Factors(65535)), b"", &mut longer)
+    write(output, Ok(Answer::None(Factors(65535))), b"", &mut longer)
 }
 
 fn refused_written(output: &mut impl Write) -> io::Result<()> {
     let mut just = [46u8; 32];
     write(
         output,
-        Answer::Refused(Refusal::NotALetter(18446744073709551615)),
+        Err(Refusal::NotALetter(18446744073709551615)),
         b"",
         &mut just,
     )?;
     let mut one_short = [46u8; 31];
     write(
         output,
-        Answer::Refused(Refusal::NotALetter(18446744073709551615)),
+        Err(Refusal::NotALetter(18446744073709551615)),
         b"",
         &mut one_short,
     )?;
     let mut longer = [46u8; 40];
     write(
         output,
-        Answer::Refused(Refusal::NotALetter(18446744073709551615)),
+        Err(Refusal::NotALetter(18446744073709551615)),
         b"",
         &mut longer,
     )?;
     let mut none = [46u8; 0];
-    write(
-        output,
-        Answer::Refused(Refusal::CardTooLong),
-        b"",
-        &mut none,
-    )
+    write(output, Err(Refusal::CardTooLong), b"", &mut none)
 }
 
 fn main(rt: HostRuntime) -> io::Result<()> {

@@ -1,25 +1,27 @@
--- What a card is answered that goes on behind its last field: question 4, at the byte where the last field ends. Assumes nothing.
-use mathlib.Core.Path.{◌≡◌, refl, subst}
+-- The card that its fields say, and what is answered where it goes on behind its last field: question 4, at the first byte behind.
+-- Assumes nothing.
+use mathlib.Core.Path.{◌≡◌, refl}
 use mathlib.Core.List.{List, [], ◌∷◌}
 use Prim.Native.Nat.{ℕ, ◌-◌, ◌<◌}
 use native.Mathlib.Omega.{arith}
-use lib.ListN.{length, drop, length-drop}
+use lib.ListN.{length}
+use Rattle.std.specs.Prelude.{Err}
 use Rattle.refusals.specs.declared.Refusal.TheVariants.{SpareByte}
 use Rattle.engine.specs.Calls.{Lent}
-use Rattle.answers.specs.declared.Answer.TheVariants.{Refused as Answer-as-Refused}
 use Rattle.fields.specs.Field.{Whole}
-use Rattle.cards.specs.Card.{Card}
+use Rattle.cards.specs.Card.{Target, Card, bound_field, target_field, list_field, fields}
 use Rattle.cards.specs.Calls.{AnswersRead}
 
-module _ (said : Card) (lent : Lent) where
-  goes_on : (size : ℕ) (rest : List ℕ) → 0 < length rest
-      → AnswersRead size (Whole said rest) (Answer-as-Refused (SpareByte (size - length rest))) lent lent
-  goes_on size [] h = absurd (omega arith)
-  goes_on size (spare ∷ rest) h = (refl, refl)
+pub fields_said : (map : ℕ) (bs : List ℕ) {n : ℕ} {target : Target} {list : List (List ℕ)} {after_n after_target rest : List ℕ}
+    → bound_field map bs ≡ Whole n after_n → target_field map after_n ≡ Whole target after_target → list_field map after_target ≡ Whole list rest
+    → fields map bs ≡ Whole (record { bound = n; target = target; list = list }) rest
+fields_said map bs bound goal list = rw (bound, goal, list) refl
 
-  pub spare_byte : (card : List ℕ) (end : ℕ) → end < length card
-      → AnswersRead (length card) (Whole said (drop end card)) (Answer-as-Refused (SpareByte end)) lent lent
-  spare_byte card end h =
-      let place : length card - length (drop end card) ≡ end = omega (arith, length-drop end card) in
-      subst (λ (k : ℕ). AnswersRead (length card) (Whole said (drop end card)) (Answer-as-Refused (SpareByte k)) lent lent) place
-      (goes_on (length card) (drop end card) (omega (arith, length-drop end card)))
+pub no_bytes : (bs : List ℕ) → length bs ≡ 0 → bs ≡ []
+no_bytes [] e = refl
+no_bytes (b ∷ bs) e = absurd (omega arith)
+
+pub spare_byte : (said : Card) (lent : Lent) (size : ℕ) (rest : List ℕ) → 0 < length rest
+    → AnswersRead size (Whole said rest) (Err (SpareByte (size - length rest))) lent lent
+spare_byte said lent size [] h = absurd (omega arith)
+spare_byte said lent size (spare ∷ rest) h = (refl, refl)

@@ -2,7 +2,7 @@
 -- Assumes nothing.
 use mathlib.Core.Path.{◌≡◌, refl, ap, ◌∙◌}
 use mathlib.Core.List.{List, [], ◌∷◌}
-use Prim.Native.Nat.{ℕ, zero, suc, ◌+◌, ◌*◌, ◌-◌}
+use Prim.Native.Nat.{ℕ, zero, suc, ◌+◌, ◌*◌}
 use native.Mathlib.Omega.{arith}
 use native.Mathlib.Decide.{dec_lt}
 use lib.ListN.{length, take, drop, length-append, length-drop}
@@ -16,13 +16,13 @@ use Rattle.cards.specs.Reading.{Listed}
 next_whole : {A B : Type 0} (field : Read A) (read : A → List ℕ → Read B) {b : B} {rest : List ℕ} → next field read ≡ Whole b rest
     → (a : A) × (behind : List ℕ) × (field ≡ Whole a behind) × (read a behind ≡ Whole b rest)
 next_whole (Whole a behind) read e = (a, behind, refl, e)
-next_whole Cut read e = let z : ◌≡◌ {A = ℕ} 0 1 = cc in absurd (omega arith)
+next_whole Cut read e = absurd (cc)
 
 -- ---- how many bytes a field takes
 
 bytes_length : (k : ℕ) (bs : List ℕ) {field rest : List ℕ} → bytes_field k bs ≡ Whole field rest → (length field ≡ k) × (length bs ≡ k + length rest)
 bytes_length k bs {field} {rest} e = elim (dec_lt (length bs) k) [
-  | yes short ↦ let cut : bytes_field k bs ≡ Cut = bytes_cut k bs 0 (omega arith) in let z : ◌≡◌ {A = ℕ} 0 1 = cc in absurd (omega arith)
+  | yes short ↦ let cut : bytes_field k bs ≡ Cut = bytes_cut k bs 0 (omega arith) in absurd (cc)
   | no long ↦
       let whole : bytes_field k bs ≡ Whole (take k bs) (drop (0 + k) bs) = bytes_whole k bs 0 (omega arith) in
       let front : field ≡ take k bs = cc in
@@ -66,7 +66,7 @@ first_generator bs count {list} {rest} e =
 pub no_generators : (bs : List ℕ) {list : List (List ℕ)} {rest : List ℕ} → generator_fields 0 bs ≡ Whole list rest → list ≡ []
 no_generators bs e = cc
 
-generators_length : (count : ℕ) (bs : List ℕ) {list : List (List ℕ)} {rest : List ℕ} → generator_fields count bs ≡ Whole list rest
+pub generators_length : (count : ℕ) (bs : List ℕ) {list : List (List ℕ)} {rest : List ℕ} → generator_fields count bs ≡ Whole list rest
     → (length list ≡ count) × (length bs ≡ length (list_bytes list) + 2 * count + length rest)
 generators_length zero bs {list} {rest} e =
     let none : list ≡ [] = no_generators bs e in
@@ -79,12 +79,11 @@ generators_length (suc count) bs {list} {rest} e =
       omega (arith, letters_length bs f.there, ap (λ (l : List (List ℕ)). length (list_bytes l)) f.splits, length-append f.generator (list_bytes f.others)),
     )
 
--- ---- a list that fills a card from a place on
+-- ---- a list that fills its bytes
 
-module _ (card : List ℕ) (start count : ℕ) {list : List (List ℕ)} (listed : Listed card start count list) where
+module _ (bytes : List ℕ) (count : ℕ) {list : List (List ℕ)} (listed : Listed bytes count list) where
   pub listed_count : length list ≡ count
-  listed_count = (generators_length count (drop start card) listed).0
+  listed_count = (generators_length count bytes listed).0
 
-  -- where the place is behind the card's end, the list is empty
-  pub listed_letters : length (list_bytes list) + 2 * count ≡ length card - start
-  listed_letters = omega (arith, (generators_length count (drop start card) listed).1, length-drop start card)
+  pub listed_letters : length (list_bytes list) + 2 * count ≡ length bytes
+  listed_letters = omega (arith, (generators_length count bytes listed).1)

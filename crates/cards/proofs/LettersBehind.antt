@@ -9,16 +9,15 @@ use lib.Dec.{leb}
 use lib.ListN.{length, length-append}
 use borrow.Author.Tests.{le-leb, lt-leb}
 use Rattle.limits.specs.Limits.{most_letters}
-use Rattle.refusals.specs.Questions.{first_no, first_other, question8, question10}
+use Rattle.refusals.specs.Questions.{Asked, passed, first_no, first_other, question8, question10}
 use Rattle.refusals.specs.declared.Refusal.TheVariants.{TooManyLetters, NotALetter}
-use Rattle.refusals.specs.declared.Asked.{Asked}
-use Rattle.refusals.specs.declared.Asked.TheVariants.{Passed, Refused}
+use Rattle.std.specs.Prelude.{Err}
 use Rattle.refusals.proofs.Asking.{asks_yes, asks_no}
 use Rattle.lists.specs.Questions.{question7, question9, of_list}
 use Rattle.lists.specs.Reducing.{AllLetters}
 use Rattle.lists.proofs.FirstOthers.{first_other_front, first_other_behind}
 
-letters_pass : (bs : List ℕ) → AllLetters bs → question10 bs ≡ Passed
+letters_pass : (bs : List ℕ) → AllLetters bs → question10 bs ≡ passed
 letters_pass bs h = asks_yes (leb (length bs) (first_other bs)) (NotALetter (first_other bs)) (le-leb (length bs) (first_other bs) h)
 
 letters_behind : (bytes target : List ℕ) → AllLetters target → question10 (bytes ++ target) ≡ question10 bytes
@@ -30,7 +29,7 @@ letters_behind bytes target h =
           let place = first_other_front bytes target (lt_of_not-le k) in
           asks_no (leb (length both) (first_other both)) (NotALetter (first_other both))
           (lt-leb (length both) (first_other both) (omega (arith, place, lt_of_not-le k, length-append bytes target)))
-          ∙ ap (λ (at : ℕ). Refused (NotALetter at)) place
+          ∙ ap (λ (at : ℕ). Err (NotALetter at)) place
           ∙ sym (asks_no (leb (length bytes) (first_other bytes)) (NotALetter (first_other bytes)) (lt-leb (length bytes) (first_other bytes) (lt_of_not-le k)))
     ]
 
@@ -38,4 +37,4 @@ pub list_before_letters : (bytes ends target : List ℕ) → length target ≤ m
 list_before_letters bytes ends target short h =
     let first : Asked → Asked → Asked = λ eighth tenth. first_no (question7 (length ends) ∷ question8 (length bytes) ∷ eighth ∷ question9 ends (length bytes) ∷ tenth ∷ []) in
     ap (λ (a : Asked). first a (question10 (bytes ++ target))) (asks_yes (leb (length target) most_letters) TooManyLetters (le-leb (length target) most_letters short))
-    ∙ ap (first Passed) (letters_behind bytes target h ∙ ap question10 (sym (append-nil bytes)))
+    ∙ ap (first passed) (letters_behind bytes target h ∙ ap question10 (sym (append-nil bytes)))

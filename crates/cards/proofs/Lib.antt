@@ -1,13 +1,9 @@
-mod AnsweredFields
-mod PlacedBounds
-mod FourNumbers
-mod PlacedTargets
+mod GeneratorFields
+mod LettersRead
+mod Skipping
 mod WholeReads
-mod PlacedLists
 pub mod ListBytes
 pub mod MadeRead
-mod GeneratorFields
-mod GeneratorSpans
 mod PushingList
 mod FlatAnswers
 mod FlatFronts
@@ -15,7 +11,5 @@ mod LettersBehind
 mod ProductAnswers
 mod LongForms
 mod MatrixAnswers
-mod CardFields
-pub mod LinedAnswers
 mod CardEnds
-mod MapQuestions
+pub mod LinedAnswers

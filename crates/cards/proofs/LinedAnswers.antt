@@ -1,5 +1,6 @@
 -- The answer to a card has its factors: a member counts one or more, and they stand in front of the witness. So `answers::write_line` finds none missing in
 -- it, and what it writes is never `member 0` (`no_member_0` of Rattle.answers). Assumes nothing.
+use Rattle.refusals.specs.Questions.{Asked}
 use mathlib.Core.Bool.{true}
 use mathlib.Core.Path.{◌≡◌, refl, ap}
 use mathlib.Core.List.{List, [], ◌∷◌}
@@ -8,8 +9,7 @@ use native.Mathlib.Omega.{arith}
 use lib.ListN.{length, take, drop, take-append-drop, length-append}
 use Rattle.words.specs.Word.{Word, nf}
 use Rattle.refusals.specs.declared.Refusal.{Refusal}
-use Rattle.refusals.specs.declared.Asked.{Asked}
-use Rattle.refusals.specs.declared.Asked.TheVariants.{Passed, Refused}
+use Rattle.std.specs.Prelude.{None, Some, Result, Ok, Err}
 use Rattle.unimodular.specs.Matrix.{Matrix}
 use Rattle.unimodular.proofs.Descent.{normal_form_exists}
 use Rattle.matrices.specs.Questions.{of_entries}
@@ -18,9 +18,7 @@ use Rattle.products.specs.Product.{Family, generators, plain}
 use Rattle.lists.specs.NormalList.{total}
 use Rattle.sizes.specs.Questions.{side}
 use Rattle.engine.specs.Questions.{of_product}
-use Rattle.engine.specs.Calls.{Lent, VerdictRight, Judged}
-use Rattle.engine.specs.declared.Verdict.{Verdict}
-use Rattle.engine.specs.declared.Verdict.TheVariants.{Member, None, Refused as Verdict-as-Refused}
+use Rattle.engine.specs.Calls.{Lent, Verdict, VerdictRight, Judged}
 use Rattle.engine.proofs.Relations.{member_counts}
 use Rattle.fields.specs.Field.{Read, Whole, Cut}
 use Rattle.answers.specs.Calls.{witnessed}
@@ -34,20 +32,20 @@ module _ (before after : Lent) where
   -- a verdict that is right, as an answer
   right_witnessed : (family : Family) (target : Word) (n : ℕ) (v : Verdict) → VerdictRight family target n v before.witness after.witness
       → witnessed (answer_of n v) after.witness ≡ true
-  right_witnessed family target n (Member count) right =
+  right_witnessed family target n (Ok (Some count)) right =
       let long = ap length (take-append-drop count.0 after.witness) in
       let sum = length-append (take count.0 after.witness) (drop count.0 after.witness) in
       member_witnessed count after.witness (member_counts family target before.witness after.witness n count right)
       (omega (arith, right.0.counts))
-  right_witnessed family target n None right = refl
-  right_witnessed family target n (Verdict-as-Refused refusal) right = refl
+  right_witnessed family target n (Ok None) right = refl
+  right_witnessed family target n (Err refusal) right = refl
 
   judged_witnessed : (asked : Asked) (q : ℕ) (family : Family) (target : Word) (n : ℕ) (v : Verdict) → Judged asked q family target n v before after
       → witnessed (answer_of n v) after.witness ≡ true
-  judged_witnessed (Refused refusal) q family target n v judged = rw judged.0 refl
-  judged_witnessed Passed q family target n v judged = right_witnessed family target n v judged.0
+  judged_witnessed (Err refusal) q family target n v judged = rw judged.0 refl
+  judged_witnessed (Ok _) q family target n v judged = right_witnessed family target n v judged.0
 
-  module _ (r : Answer) where
+  module _ (r : Result Answer Refusal) where
     abbrev HasFactors : Type 0
     HasFactors = witnessed r after.witness ≡ true
 
@@ -64,8 +62,8 @@ module _ (before after : Lent) where
         (side (total gens) (length (nf target))) (plain gens) target n v judged)
 
     matrix_witnessed : (asked : Asked) (n : ℕ) (m : Matrix) (list : List (List ℕ)) → of_entries m ≡ asked → AnswersMatrix asked n m list r before after → HasFactors
-    matrix_witnessed (Refused refusal) n m list e answers = refusal_witnessed refusal answers
-    matrix_witnessed Passed n m list e answers =
+    matrix_witnessed (Err refusal) n m list e answers = refusal_witnessed refusal answers
+    matrix_witnessed (Ok _) n m list e answers =
         let (w, form) = normal_form_exists m (passed_determinant m e) in product_witnessed n [] w list (answers w form)
 
     target_witnessed : (n : ℕ) (target : Target) (list : List (List ℕ)) → AnswersTarget n target list r before after → HasFactors
@@ -78,8 +76,8 @@ module _ (before after : Lent) where
     read_witnessed size (Whole card []) answers = target_witnessed card.bound card.target card.list answers
 
     mapped_witnessed : (asked : Asked) (card : List ℕ) → AnswersMapped asked card r before after → HasFactors
-    mapped_witnessed (Refused refusal) card answers = refusal_witnessed refusal answers
-    mapped_witnessed Passed card answers = read_witnessed (length card) (card_of card) answers
+    mapped_witnessed (Err refusal) card answers = refusal_witnessed refusal answers
+    mapped_witnessed (Ok _) card answers = read_witnessed (length card) (card_of card) answers
 
     pub answer_witnessed : (card : List ℕ) → AnswersCard card r before after → witnessed r after.witness ≡ true
     answer_witnessed card answers = mapped_witnessed (of_map card) card answers

@@ -10,10 +10,8 @@ use lib.ListN.{length, length-append}
 use borrow.Author.Tests.{le-leb, eq-eqb}
 use Rattle.words.specs.Word.{Word}
 use Rattle.words.specs.Bytes.{word}
-use Rattle.refusals.specs.Questions.{asks}
+use Rattle.refusals.specs.Questions.{Asked, passed, asks}
 use Rattle.refusals.specs.declared.Refusal.TheVariants.{EndsWrong}
-use Rattle.refusals.specs.declared.Asked.{Asked}
-use Rattle.refusals.specs.declared.Asked.TheVariants.{Passed}
 use Rattle.refusals.proofs.Asking.{yes_first}
 use Rattle.slices.proofs.Slices.{slice_middle}
 use Rattle.lists.specs.Questions.{first_fall, last_end, question9}
@@ -49,7 +47,7 @@ pub list_ends_rise : (from : ℕ) (list : List (List ℕ)) → first_fall from (
 list_ends_rise from [] = refl
 list_ends_rise from (g ∷ list) = rw (le-leb from (from + length g) (omega arith)) (ap suc (list_ends_rise (from + length g) list))
 
-pub list_ends_right : (list : List (List ℕ)) → question9 (list_ends 0 list) (length (list_bytes list)) ≡ Passed
+pub list_ends_right : (list : List (List ℕ)) → question9 (list_ends 0 list) (length (list_bytes list)) ≡ passed
 list_ends_right list =
     let ends = list_ends 0 list in
     let ending : Asked = asks (eqb (last_end 0 ends) (length (list_bytes list))) (EndsWrong (length ends)) in

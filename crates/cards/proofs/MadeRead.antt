@@ -1,4 +1,5 @@
 -- A card that is made from fields is read back as those fields, and its bit map passes question 2. Assumes nothing.
+use Rattle.refusals.specs.Questions.{passed}
 use mathlib.Core.Bool.{Bool, true, false}
 use mathlib.Core.Path.{◌≡◌, refl, sym, ap, ◌∙◌}
 use mathlib.Core.List.{List, [], ◌∷◌, ◌++◌, append_assoc, append-nil}
@@ -8,7 +9,6 @@ use lib.ListN.{length}
 use lib.IntN.{ℤ, pos, negsuc}
 use lib.Signed.{mag}
 use Rattle.unimodular.specs.Matrix.{Matrix}
-use Rattle.refusals.specs.declared.Asked.TheVariants.{Passed}
 use Rattle.fields.specs.Field.{Read, Whole, next, signed_field, letters_field, spelled}
 use Rattle.fields.proofs.Reading.{number_read, letters_read, signed_read}
 use Rattle.cards.specs.Card.{Target, Letters, Entries, bit, default_bound, bound_field, matrix_field, target_field, generator_fields, list_field, after_target, after_bound, card_of}
@@ -43,7 +43,7 @@ module _ (b : Option ℕ) (t : Option Target) (l : Option (List (List ℕ))) whe
   abbrev Tells : Type 0
   Tells =
       (bit 1 bit_map ≡ is_there b) × (bit 2 bit_map ≡ by_letters t) × (bit 4 bit_map ≡ by_entries t) × (bit 8 bit_map ≡ is_there l)
-      × ((bs : List ℕ) → question2 (bit_map ∷ bs) ≡ Passed)
+      × ((bs : List ℕ) → question2 (bit_map ∷ bs) ≡ passed)
 
 tells : (b : Option ℕ) (t : Option Target) (l : Option (List (List ℕ))) → Tells b t l
 tells none none none = (refl, refl, refl, refl, λ bs. refl)
@@ -110,7 +110,7 @@ list_read map (some list) fits e =
 
 -- ---- the card
 
-pub made_map : (f : Fields) → question2 (made f) ≡ Passed
+pub made_map : (f : Fields) → question2 (made f) ≡ passed
 made_map f = (tells f.bound f.target f.list).4 (bound_bytes f.bound ++ (target_bytes f.target ++ list_field_bytes f.list))
 
 pub made_read : (f : Fields) → FieldsFit f → card_of (made f) ≡ Whole (meant f) []

@@ -1,59 +1,90 @@
--- What holds of a field wherever it is whole, and of what stands behind it.
---     if_whole_next        of one field behind another
---     generators_counted   so many generators are so many words, and what stands behind them is no longer than what they were read from
--- Assumes nothing.
-use mathlib.Core.Path.{◌≡◌, refl, ap}
+-- What stands behind a field is no longer than what the field was read from. Assumes nothing.
+use mathlib.Core.Path.{◌≡◌, subst}
 use mathlib.Core.Bool.{Bool, true, false}
-use mathlib.Core.List.{List, ◌∷◌}
+use mathlib.Core.List.{List, [], ◌∷◌}
 use Prim.Native.Nat.{ℕ, zero, suc, ◌≤◌}
 use native.Mathlib.Nat.{le_refl}
 use native.Mathlib.Omega.{arith}
 use lib.Dec.{leb}
+use lib.IntN.{ℤ}
 use lib.ListN.{length, take, drop, length-drop}
 use Rattle.refusals.specs.Telling.{pick}
-use Rattle.fields.specs.Field.{Read, Whole, Cut, next, bytes_field, number, number_field, letters_field}
-use Rattle.cards.specs.Card.{generator_fields}
+use Rattle.unimodular.specs.Matrix.{Matrix}
+use Rattle.fields.specs.Field.{Read, Whole, Cut, next, bytes_field, number, number_field, twos_complement, signed_field, letters_field}
+use Rattle.cards.specs.Card.{Letters, Entries, Card, bit, default_bound, bound_field, matrix_field, letters_target, matrix_target, target_field, generator_fields, counted_list, list_field, after_target, after_bound, fields}
 
-abbrev pub IfWhole : {A : Type 0} → (A → List ℕ → Type 0) → Read A → Type 0
-IfWhole P (Whole a rest) = P a rest
-IfWhole P Cut = Unit {0}
+-- where the field is whole, at most so many bytes stand behind it
+abbrev pub Within : {A : Type 0} → ℕ → Read A → Type 0
+Within most (Whole a rest) = length rest ≤ most
+Within most Cut = Unit {0}
 
-if_whole_next : {A B : Type 0} (P : A → List ℕ → Type 0) (Q : B → List ℕ → Type 0) (field : Read A) (behind : A → List ℕ → Read B)
-    → IfWhole P field → ((a : A) (rest : List ℕ) → P a rest → IfWhole Q (behind a rest)) → IfWhole Q (next field behind)
-if_whole_next P Q (Whole a rest) behind h g = g a rest h
-if_whole_next P Q Cut behind h g = tt
+within_next : {A B : Type 0} (most : ℕ) (field : Read A) (behind : A → List ℕ → Read B) → Within most field
+    → ((a : A) (rest : List ℕ) → length rest ≤ most → Within most (behind a rest)) → Within most (next field behind)
+within_next most (Whole a rest) behind h g = g a rest h
+within_next most Cut behind h g = tt
 
--- what stands behind is at most so long
-abbrev Within : {A : Type 0} → ℕ → A → List ℕ → Type 0
-Within most field rest = length rest ≤ most
+within_pick : {A : Type 0} (most : ℕ) (t : Bool) (a b : Read A) → Within most a → Within most b → Within most (pick t a b)
+within_pick most true a b h k = h
+within_pick most false a b h k = k
 
-if_whole_pick : {A : Type 0} (P : A → List ℕ → Type 0) (t : Bool) (a : A) (rest : List ℕ) → P a rest → IfWhole P (pick t (Whole a rest) Cut)
-if_whole_pick P true a rest h = h
-if_whole_pick P false a rest h = tt
+module _ (most : ℕ) where
+  bytes_within : (count : ℕ) (bs : List ℕ) → length bs ≤ most → Within most (bytes_field count bs)
+  bytes_within count bs h = within_pick most (leb count (length bs)) (Whole (take count bs) (drop count bs)) Cut (omega (arith, length-drop count bs)) tt
 
-bytes_within : (most count : ℕ) (bs : List ℕ) → length bs ≤ most → IfWhole (Within most) (bytes_field count bs)
-bytes_within most count bs h =
-    if_whole_pick (Within most) (leb count (length bs)) (take count bs) (drop count bs) (omega (arith, length-drop count bs))
+  number_within : (count : ℕ) (bs : List ℕ) → length bs ≤ most → Within most (number_field count bs)
+  number_within count bs h = within_next most (bytes_field count bs) (λ (field rest : List ℕ). Whole (number field) rest) (bytes_within count bs h) (λ field rest k. k)
 
-letters_within : (bs : List ℕ) → IfWhole (Within (length bs)) (letters_field bs)
-letters_within bs =
-    if_whole_next (Within (length bs)) (Within (length bs)) (number_field 2 bs) bytes_field
-    (if_whole_next (Within (length bs)) (Within (length bs)) (bytes_field 2 bs) (λ (field rest : List ℕ). Whole (number field) rest)
-    (bytes_within (length bs) 2 bs (le_refl (length bs))) (λ field rest h. h))
-    (λ count rest h. bytes_within (length bs) count rest h)
+  letters_within : (bs : List ℕ) → length bs ≤ most → Within most (letters_field bs)
+  letters_within bs h = within_next most (number_field 2 bs) bytes_field (number_within 2 bs h) bytes_within
 
-abbrev pub Counted : ℕ → List ℕ → List (List ℕ) → List ℕ → Type 0
-Counted count bs list rest = (length list ≡ count) × (length rest ≤ length bs)
+  -- a signed number, and what is read behind it
+  signed_within : {B : Type 0} (read : ℤ → List ℕ → Read B) (bs : List ℕ) → length bs ≤ most
+      → ((z : ℤ) (rest : List ℕ) → length rest ≤ most → Within most (read z rest)) → Within most (next (signed_field bs) read)
+  signed_within read bs h g =
+      within_next most (signed_field bs) read
+      (within_next most (number_field 8 bs) (λ (u : ℕ) (rest : List ℕ). Whole (twos_complement u) rest) (number_within 8 bs h) (λ u rest k. k)) g
 
-pub generators_counted : (count : ℕ) (bs : List ℕ) → IfWhole (Counted count bs) (generator_fields count bs)
-generators_counted zero bs = (refl, le_refl (length bs))
-generators_counted (suc count) bs =
-    if_whole_next (Within (length bs)) (Counted (suc count) bs) (letters_field bs)
-    (λ (letters after_one : List ℕ).
-    next (generator_fields count after_one) (λ (others : List (List ℕ)) (rest : List ℕ). Whole (letters ∷ others) rest))
-    (letters_within bs)
-    (λ letters after_one h.
-    if_whole_next (Counted count after_one) (Counted (suc count) bs) (generator_fields count after_one)
-    (λ (others : List (List ℕ)) (rest : List ℕ). Whole (letters ∷ others) rest)
-    (generators_counted count after_one)
-    (λ others rest k. (ap suc k.0, omega arith)))
+  matrix_within : (bs : List ℕ) → length bs ≤ most → Within most (matrix_field bs)
+  matrix_within bs h =
+      signed_within _ bs h
+      (λ a after_a h. signed_within _ after_a h
+      (λ b after_b h. signed_within _ after_b h
+      (λ c after_c h. signed_within _ after_c h (λ d rest h. h))))
+
+  bound_within : (map : ℕ) (bs : List ℕ) → length bs ≤ most → Within most (bound_field map bs)
+  bound_within map bs h = within_pick most (bit 1 map) (number_field 2 bs) (Whole default_bound bs) (number_within 2 bs h) h
+
+  target_within : (map : ℕ) (bs : List ℕ) → length bs ≤ most → Within most (target_field map bs)
+  target_within map bs h =
+      within_pick most (bit 2 map) (letters_target bs) (pick (bit 4 map) (matrix_target bs) (Whole (Letters []) bs))
+      (within_next most (letters_field bs) (λ (letters rest : List ℕ). Whole (Letters letters) rest) (letters_within bs h) (λ letters rest k. k))
+      (within_pick most (bit 4 map) (matrix_target bs) (Whole (Letters []) bs)
+      (within_next most (matrix_field bs) (λ (m : Matrix) (rest : List ℕ). Whole (Entries m) rest) (matrix_within bs h) (λ m rest k. k)) h)
+
+  generators_within : (count : ℕ) (bs : List ℕ) → length bs ≤ most → Within most (generator_fields count bs)
+  generators_within zero bs h = h
+  generators_within (suc count) bs h =
+      within_next most (letters_field bs)
+      (λ (letters after_one : List ℕ).
+      next (generator_fields count after_one) (λ (others : List (List ℕ)) (rest : List ℕ). Whole (letters ∷ others) rest))
+      (letters_within bs h)
+      (λ letters after_one k.
+      within_next most (generator_fields count after_one) (λ (others : List (List ℕ)) (rest : List ℕ). Whole (letters ∷ others) rest)
+      (generators_within count after_one k) (λ others rest k. k))
+
+  list_within : (map : ℕ) (bs : List ℕ) → length bs ≤ most → Within most (list_field map bs)
+  list_within map bs h =
+      within_pick most (bit 8 map) (counted_list bs) (Whole [] bs)
+      (within_next most (number_field 1 bs) generator_fields (number_within 1 bs h) generators_within) h
+
+  fields_within : (map : ℕ) (bs : List ℕ) → length bs ≤ most → Within most (fields map bs)
+  fields_within map bs h =
+      within_next most (bound_field map bs) (after_bound map) (bound_within map bs h)
+      (λ n after_n h.
+      within_next most (target_field map after_n) (after_target map n) (target_within map after_n h)
+      (λ target after_t h.
+      within_next most (list_field map after_t) (λ (list : List (List ℕ)) (rest : List ℕ). Whole (record { bound = n; target = target; list = list }) rest)
+      (list_within map after_t h) (λ list rest k. k)))
+
+pub behind_fields : (map : ℕ) (bs : List ℕ) {card : Card} {rest : List ℕ} → fields map bs ≡ Whole card rest → length rest ≤ length bs
+behind_fields map bs e = subst (Within (length bs)) e (fields_within (length bs) map bs (le_refl (length bs)))

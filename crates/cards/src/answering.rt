@@ -1,217 +1,113 @@
-// From a card to its answer, field by field. What is read behind what is the order of the questions 3 to 15.
+// From a card to its answer. What is read behind what is the order of the questions 3 to 15.
 ghost use Rattle.std.specs.Prelude.{◌≡◌, List, ℕ, ◌≤◌, length, drop};
 ghost use Rattle.words.specs.Bytes.{word};
 ghost use Rattle.matrices.specs.Entries.{matrix};
 ghost use Rattle.matrices.specs.Questions.{of_entries};
-ghost use Rattle.cards.specs.Card.{Target, fields, after_bound, after_target};
-ghost use Rattle.cards.specs.Calls.{answer_of, AnswersProduct, AnswersMatrix, AnswersTarget, AnswersRead};
+ghost use Rattle.cards.specs.Card.{Target, fields};
+ghost use Rattle.cards.specs.Calls.{AnswersProduct, AnswersMatrix, AnswersTarget, AnswersRead};
 ghost use Rattle.cards.specs.Reading.{GoalIs, Listed, SomeListed};
+ghost use Rattle.cards.specs.Lending.{held, SameSlices};
 
-use crate::flattening::{Flat, flatten};
+use crate::flattening::flatten;
 use crate::reading;
-use crate::reading::{BoundAt, Goal, ListAt, TargetAt};
+use crate::reading::{Generators, Goal};
 use answers::Answer;
-use engine::Verdict;
 use limits::{FORM_ROOM, GENERATORS, WORD_LETTERS};
 use matrices::Matrix;
-use words::{Factors, Refusal, Written};
+use words::{Factors, Refusal};
 
-// The engine's verdict as a card's answer.
-fn answered(n: Factors, verdict: Verdict) -> Answer
-    ensures { result ≡ answer_of n.0 verdict }
-{
-    match verdict {
-        Verdict::Member(count) => Answer::Member(count),
-        Verdict::None => Answer::None(n),
-        Verdict::Refused(refusal) => Answer::Refused(refusal),
-    }
+// What is lent to the engine: its two tables, and the witness.
+#[derive(Drop)]
+pub(crate) struct Lent<'a> {
+    pub(crate) first: &'a mut [u16],
+    pub(crate) second: &'a mut [u16],
+    pub(crate) witness: &'a mut [u8],
 }
 
-// The answer to a bound, a target's letters, and the list that fills the card from `start` on.
+// The answer to a bound, a target's letters, and the list that fills its bytes.
 fn answer_letters(
-    card: &[u8],
-    start: usize,
-    count: usize,
+    list: Generators,
     target: &[u8],
     n: Factors,
-    first: &mut [u16],
-    second: &mut [u16],
-    witness: &mut [u8],
-) -> Answer
-    requires { SomeListed card.now start count }
-    ensures { (list : List (List ℕ)) → Listed card.now start count list
-        → AnswersProduct n.0 target.now (word target.now) list result
-        (record { first = first.old; second = second.old; witness = witness.old })
-        (record { first = first.new; second = second.new; witness = witness.new }) }
+    lent: &mut Lent,
+) -> Result<Answer, Refusal>
+    requires { SomeListed list.bytes.now list.count }
+    ensures same_slices { SameSlices lent.old lent.new }
+    ensures answers { (generators : List (List ℕ)) → Listed list.entry.bytes.now list.entry.count generators
+        → AnswersProduct n.0 target.now (word target.now) generators result (held lent.old) (held lent.new) }
 {
     let mut letters = [0u8; WORD_LETTERS];
     let mut ends = [0u16; GENERATORS];
-    match flatten(card, start, count, &mut letters, &mut ends) {
-        Flat::Refused(refusal) => Answer::Refused(refusal),
-        Flat::Letters(total) => {
-            let len = total.0 as usize;
-            answered(
-                n,
-                engine::judge(
-                    &letters[..len],
-                    &ends[..count],
-                    target,
-                    n,
-                    first,
-                    second,
-                    witness,
-                ),
-            )
-        }
-    }
+    let total = flatten(list, &mut letters, &mut ends)?.0 as usize;
+    let verdict = engine::judge(
+        &letters[..total],
+        &ends[..list.count],
+        target,
+        n,
+        lent.first,
+        lent.second,
+        lent.witness,
+    )?;
+    Ok(match verdict {
+        Some(count) => Answer::Member(count),
+        None => Answer::None(n),
+    })
 }
 
-// The answer to a bound, a matrix, and the list that fills the card from `start` on. Where the normal form is too long, T to the 41st, which is too long
-// too, stands for it: the list's questions come before question 12.
+// The answer to a bound, a matrix, and the list that fills its bytes. Where the normal form is too long, T to the 41st, which is too long too, stands for
+// it: the list's questions come before question 12.
 fn answer_matrix(
-    card: &[u8],
-    start: usize,
-    count: usize,
+    list: Generators,
     m: Matrix,
     n: Factors,
-    first: &mut [u16],
-    second: &mut [u16],
-    witness: &mut [u8],
-) -> Answer
-    requires { SomeListed card.now start count }
-    ensures { (list : List (List ℕ)) → Listed card.now start count list
-        → AnswersMatrix (of_entries (matrix m)) n.0 (matrix m) list result
-        (record { first = first.old; second = second.old; witness = witness.old })
-        (record { first = first.new; second = second.new; witness = witness.new }) }
+    lent: &mut Lent,
+) -> Result<Answer, Refusal>
+    requires { SomeListed list.bytes.now list.count }
+    ensures same_slices { SameSlices lent.old lent.new }
+    ensures answers { (generators : List (List ℕ)) → Listed list.entry.bytes.now list.entry.count generators
+        → AnswersMatrix (of_entries (matrix m)) n.0 (matrix m) generators result (held lent.old) (held lent.new) }
 {
     let mut form = [0u8; FORM_ROOM];
     match matrices::matrix_to_word(m, &mut form) {
-        Written::Length(t) => answer_letters(
-            card,
-            start,
-            count,
-            &form[..t.0 as usize],
-            n,
-            first,
-            second,
-            witness,
-        ),
-        Written::Refused(refusal) => match refusal {
+        Ok(len) => answer_letters(list, &form[..len.0 as usize], n, lent),
+        // By a match of its own, which knows of its other arm that it is another refusal.
+        Err(refusal) => match refusal {
             Refusal::NormalFormTooLong => answer_letters(
-                card,
-                start,
-                count,
+                list,
                 b"SRSRSRSRSRSRSRSRSRSRSRSRSRSRSRSRSRSRSRSRSRSRSRSRSRSRSRSRSRSRSRSRSRSRSRSRSRSRSRSRSR",
                 n,
-                first,
-                second,
-                witness,
+                lent,
             ),
-            _ => Answer::Refused(refusal),
+            _ => Err(refusal),
         },
     }
 }
 
-// The answer to a bound, a target, and the list that fills the card from `start` on.
-fn answer_goal(
-    card: &[u8],
-    start: usize,
-    count: usize,
-    goal: Goal,
-    n: Factors,
-    first: &mut [u16],
-    second: &mut [u16],
-    witness: &mut [u8],
-) -> Answer
-    requires some_listed { SomeListed card.now start count }
-    requires goal_is { (target : Target) × GoalIs card.now target goal }
-    ensures { (list : List (List ℕ)) (target : Target) → Listed card.now start count list → GoalIs card.now target goal
-        → AnswersTarget n.0 target list result
-        (record { first = first.old; second = second.old; witness = witness.old })
-        (record { first = first.new; second = second.new; witness = witness.new }) }
+// The answer to a bound, a target, and the list that fills its bytes.
+fn answer_goal(list: Generators, goal: Goal, n: Factors, lent: &mut Lent) -> Result<Answer, Refusal>
+    requires { SomeListed list.bytes.now list.count }
+    ensures same_slices { SameSlices lent.old lent.new }
+    ensures answers { (generators : List (List ℕ)) (target : Target) → Listed list.entry.bytes.now list.entry.count generators → GoalIs target goal.entry
+        → AnswersTarget n.0 target generators result (held lent.old) (held lent.new) }
 {
     match goal {
-        Goal::Letters(from, end) => answer_letters(
-            card,
-            start,
-            count,
-            &card[from..end],
-            n,
-            first,
-            second,
-            witness,
-        ),
-        Goal::Entries(m) => answer_matrix(card, start, count, m, n, first, second, witness),
+        Goal::Letters(letters) => answer_letters(list, letters, n, lent),
+        Goal::Entries(m) => answer_matrix(list, m, n, lent),
     }
 }
 
-// The answer of a card behind its target: the list is read, and nothing may be left.
-fn answer_list(
-    card: &[u8],
-    map: u8,
-    n: Factors,
-    goal: Goal,
-    at: usize,
-    first: &mut [u16],
-    second: &mut [u16],
-    witness: &mut [u8],
-) -> Answer
-    requires at_in_bounds { at ≤ length card.now }
-    requires goal_is { (target : Target) × GoalIs card.now target goal }
-    ensures { (target : Target) → GoalIs card.now target goal
-        → AnswersRead (length card.now) (after_target map n.0 target (drop at card.now)) result
-        (record { first = first.old; second = second.old; witness = witness.old })
-        (record { first = first.new; second = second.new; witness = witness.new }) }
-{
-    match reading::list(card, map, at) {
-        ListAt::Cut => Answer::Refused(Refusal::FieldCut(card.len())),
-        ListAt::Whole(count, start, end) => {
-            if end < card.len() {
-                return Answer::Refused(Refusal::SpareByte(end));
-            }
-            answer_goal(card, start, count, goal, n, first, second, witness)
-        }
-    }
-}
-
-// The answer of a card behind its bound.
-fn answer_target(
-    card: &[u8],
-    map: u8,
-    n: Factors,
-    at: usize,
-    first: &mut [u16],
-    second: &mut [u16],
-    witness: &mut [u8],
-) -> Answer
-    requires { at ≤ length card.now }
-    ensures { AnswersRead (length card.now) (after_bound map n.0 (drop at card.now)) result
-        (record { first = first.old; second = second.old; witness = witness.old })
-        (record { first = first.new; second = second.new; witness = witness.new }) }
-{
-    match reading::target(card, map, at) {
-        TargetAt::Cut => Answer::Refused(Refusal::FieldCut(card.len())),
-        TargetAt::Whole(goal, next) => answer_list(
-            card, map, n, goal, next, first, second, witness,
-        ),
-    }
-}
-
-// The answer of a card behind its bit map.
-pub(crate) fn answer_fields(
-    card: &[u8],
-    map: u8,
-    first: &mut [u16],
-    second: &mut [u16],
-    witness: &mut [u8],
-) -> Answer
+// The answer of a card behind its bit map: the fields are read, and nothing may be left.
+pub(crate) fn answer_fields(card: &[u8], map: u8, lent: &mut Lent) -> Result<Answer, Refusal>
     requires { 1 ≤ length card.now }
-    ensures { AnswersRead (length card.now) (fields map (drop 1 card.now)) result
-        (record { first = first.old; second = second.old; witness = witness.old })
-        (record { first = first.new; second = second.new; witness = witness.new }) }
+    ensures same_slices { SameSlices lent.old lent.new }
+    ensures answers { AnswersRead (length card.now) (fields map (drop 1 card.now)) result (held lent.old) (held lent.new) }
 {
-    match reading::bound(card, map) {
-        BoundAt::Cut => Answer::Refused(Refusal::FieldCut(card.len())),
-        BoundAt::Whole(n, at) => answer_target(card, map, n, at, first, second, witness),
+    let cut = Refusal::FieldCut(card.len());
+    let (n, rest) = reading::bound(map, &card[1..]).ok_or(cut)?;
+    let (goal, rest) = reading::target(map, rest).ok_or(cut)?;
+    let (list, rest) = reading::list(map, rest).ok_or(cut)?;
+    if !rest.is_empty() {
+        return Err(Refusal::SpareByte(card.len() - rest.len()));
     }
+    answer_goal(list, goal, n, lent)
 }

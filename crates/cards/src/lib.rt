@@ -7,28 +7,36 @@ mod reading;
 
 ghost use Rattle.cards.specs.Calls.{AnswersCard};
 
+use crate::answering::Lent;
 use answers::Answer;
 use limits::CARD_BYTES;
 use words::Refusal;
 
 // Answers a card of any length and content. The tables and the witness are lent as to the engine.
-pub fn answer_card(card: &[u8], first: &mut [u16], second: &mut [u16], witness: &mut [u8]) -> Answer
+pub fn answer_card(
+    card: &[u8],
+    first: &mut [u16],
+    second: &mut [u16],
+    witness: &mut [u8],
+) -> Result<Answer, Refusal>
     ensures { AnswersCard card.now result
         (record { first = first.old; second = second.old; witness = witness.old })
         (record { first = first.new; second = second.new; witness = witness.new }) }
 {
     if CARD_BYTES < card.len() {
-        return Answer::Refused(Refusal::CardTooLong);
+        return Err(Refusal::CardTooLong);
     }
-    if card.len() == 0 {
-        return Answer::Refused(Refusal::BitMapWrong);
+    let map = *card.first().ok_or(Refusal::BitMapWrong)?;
+    if 15 < map || reading::both_targets(map) {
+        return Err(Refusal::BitMapWrong);
     }
-    let map = card[0];
-    if 15 < map {
-        return Answer::Refused(Refusal::BitMapWrong);
-    }
-    if reading::both_targets(map) {
-        return Answer::Refused(Refusal::BitMapWrong);
-    }
-    answering::answer_fields(card, map, first, second, witness)
+    answering::answer_fields(
+        card,
+        map,
+        &mut Lent {
+            first,
+            second,
+            witness,
+        },
+    )
 }

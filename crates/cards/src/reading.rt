@@ -1,186 +1,137 @@
-// Where a card's fields stand. Each function reads one field behind another, and answers what it says and where the rest begins.
-ghost use Rattle.std.specs.Prelude.{◌≡◌, false, ◌≤◌, length, drop};
+// A card's fields, one behind the other. Each function reads one field at the front of some bytes, and answers what it says and the bytes behind it, or
+// nothing where the field is cut off.
+ghost use Rattle.std.specs.Prelude.{◌≡◌, false, ◌<◌, ◌^◌};
+ghost use Rattle.fields.specs.Field.{signed_field, letters_field};
 ghost use Rattle.refusals.specs.Telling.{pick};
-ghost use Rattle.cards.specs.Card.{bit, bound_field, matrix_field, letters_target, matrix_target, target_field, generator_fields, counted_list, list_field};
-ghost use Rattle.cards.specs.Reading.{BoundIs, MatrixIs, TargetIs, SkippedTo, ListIs};
+ghost use Rattle.cards.specs.Card.{bit as bit_of, bound_field, matrix_field, letters_target, matrix_target, target_field, generator_fields, counted_list, list_field};
+ghost use Rattle.cards.specs.Reading.{NumberIs, LettersAre, BoundIs, MatrixIs, TargetIs, Skips, ListIs};
 
 use fields::reader::{byte_after, short_after};
-use fields::{Byte, Short, Signed, Span, letters_after, signed_after};
 use matrices::Matrix;
 use words::Factors;
 
 // What n a card asks without the field. Question 13 has the same number, for another reason.
 const DEFAULT_BOUND: u16 = 1000;
 
-// The bound, and where the rest begins.
-#[derive(Drop)]
-pub(crate) enum BoundAt {
-    Whole(Factors, usize),
-    Cut,
-}
+// The bits of the map: which fields a card has.
+const BOUND: u32 = 0;
 
-// A target: where its letters start and end, or its matrix.
-#[derive(Drop)]
-pub(crate) enum Goal {
-    Letters(usize, usize),
+const LETTERS: u32 = 1;
+
+const MATRIX: u32 = 2;
+
+const LIST: u32 = 3;
+
+// A target, by its letters or by its matrix.
+#[derive(Clone, Copy)]
+pub(crate) enum Goal<'a> {
+    Letters(&'a [u8]),
     Entries(Matrix),
 }
 
-// The target, and where the rest begins.
-#[derive(Drop)]
-pub(crate) enum TargetAt {
-    Whole(Goal, usize),
-    Cut,
+// How many generators a list has, and the card from the first one's length on.
+#[derive(Clone, Copy)]
+pub(crate) struct Generators<'a> {
+    pub(crate) count: usize,
+    pub(crate) bytes: &'a [u8],
 }
 
-// A matrix of four numbers, one behind the other.
-#[derive(Drop)]
-pub(crate) enum MatrixAt {
-    Whole(Matrix),
-    Cut,
-}
-
-// Where the rest begins, behind some generators.
-#[derive(Drop)]
-pub(crate) enum Skipped {
-    To(usize),
-    Cut,
-}
-
-// How many generators there are, where the first one's length stands, and where the list ends.
-#[derive(Drop)]
-pub(crate) enum ListAt {
-    Whole(usize, usize, usize),
-    Cut,
-}
-
-// Is the bit of this weight set?
-pub(crate) fn has(map: u8, weight: u8) -> bool
-    requires { 1 ≤ weight }
-    ensures { result ≡ bit weight map }
+// Is this bit set?
+fn has(map: u8, bit: u32) -> bool
+    requires { bit < 8 }
+    ensures { result ≡ bit_of (2 ^ bit) map }
 {
-    map / weight % 2 == 1
+    map >> bit & 1 == 1
 }
 
 // Are bits 1 and 2 both set?
 pub(crate) fn both_targets(map: u8) -> bool
-    ensures { result ≡ pick (bit 2 map) (bit 4 map) false }
+    ensures { result ≡ pick (bit_of 2 map) (bit_of 4 map) false }
 {
-    if has(map, 2) {
-        return has(map, 4);
-    }
-    false
+    has(map, LETTERS) && has(map, MATRIX)
 }
 
-// The bound of a card behind its first byte.
-pub(crate) fn bound(card: &[u8], map: u8) -> BoundAt
-    requires { 1 ≤ length card.now }
-    ensures { BoundIs card.now (bound_field map (drop 1 card.now)) result }
+fn signed(card: &[u8]) -> Option<(i64, &[u8])>
+    ensures { NumberIs (signed_field card.now) result }
 {
-    if has(map, 1) {
-        return match short_after(card, 1) {
-            Short::Cut => BoundAt::Cut,
-            Short::Whole(n) => BoundAt::Whole(Factors(n), 3),
-        };
-    }
-    BoundAt::Whole(Factors(DEFAULT_BOUND), 1)
+    let z = fields::signed_after(card, 0)?;
+    Some((z, &card[8..]))
 }
 
-// The matrix whose four numbers stand at `at`.
-fn matrix_after(card: &[u8], at: usize) -> MatrixAt
-    ensures { MatrixIs card.now at (matrix_field (drop at card.now)) result }
+// Letters with their length in front.
+pub(crate) fn letters(card: &[u8]) -> Option<(&[u8], &[u8])>
+    ensures { LettersAre (letters_field card.now) result }
 {
-    match signed_after(card, at) {
-        Signed::Cut => MatrixAt::Cut,
-        Signed::Whole(a) => match signed_after(card, at + 8) {
-            Signed::Cut => MatrixAt::Cut,
-            Signed::Whole(b) => match signed_after(card, at + 16) {
-                Signed::Cut => MatrixAt::Cut,
-                Signed::Whole(c) => match signed_after(card, at + 24) {
-                    Signed::Cut => MatrixAt::Cut,
-                    Signed::Whole(d) => MatrixAt::Whole(Matrix { a, b, c, d }),
-                },
-            },
+    let span = fields::letters_after(card, 0)?;
+    Some((&card[span.start..span.end], &card[span.end..]))
+}
+
+pub(crate) fn bound(map: u8, card: &[u8]) -> Option<(Factors, &[u8])>
+    ensures { BoundIs (bound_field map card.now) result }
+{
+    if !has(map, BOUND) {
+        return Some((Factors(DEFAULT_BOUND), card));
+    }
+    let n = short_after(card, 0)?;
+    Some((Factors(n), &card[2..]))
+}
+
+fn matrix(card: &[u8]) -> Option<(Matrix, &[u8])>
+    ensures { MatrixIs (matrix_field card.now) result }
+{
+    let (a, card) = signed(card)?;
+    let (b, card) = signed(card)?;
+    let (c, card) = signed(card)?;
+    let (d, card) = signed(card)?;
+    Some((Matrix { a, b, c, d }, card))
+}
+
+pub(crate) fn target(map: u8, card: &[u8]) -> Option<(Goal<'_>, &[u8])>
+    ensures { TargetIs (target_field map card.now) result }
+{
+    if has(map, LETTERS) {
+        let (letters, card) = letters(card)?;
+        return Some((Goal::Letters(letters), card));
+    }
+    if has(map, MATRIX) {
+        let (m, card) = matrix(card)?;
+        return Some((Goal::Entries(m), card));
+    }
+    Some((Goal::Letters(&[]), card))
+}
+
+// The bytes behind `count` generators.
+fn skip(count: usize, card: &[u8]) -> Option<&[u8]>
+    ensures { Skips (generator_fields count card.now) result }
+{
+    let mut rest = card;
+    for _ in 0..count {
+        rest = letters(rest)?.1;
+    }
+    Some(rest)
+}
+
+// The generators behind their number.
+fn counted_list(card: &[u8]) -> Option<(Generators<'_>, &[u8])>
+    ensures { ListIs (counted_list card.now) result }
+{
+    let count = byte_after(card, 0)? as usize;
+    let bytes = &card[1..];
+    let card = skip(count, bytes)?;
+    Some((Generators { count, bytes }, card))
+}
+
+pub(crate) fn list(map: u8, card: &[u8]) -> Option<(Generators<'_>, &[u8])>
+    ensures { ListIs (list_field map card.now) result }
+{
+    if has(map, LIST) {
+        return counted_list(card);
+    }
+    Some((
+        Generators {
+            count: 0,
+            bytes: card,
         },
-    }
-}
-
-// The target by its letters, at `at`.
-fn letters_target(card: &[u8], at: usize) -> TargetAt
-    ensures { TargetIs card.now (letters_target (drop at card.now)) result }
-{
-    match letters_after(card, at) {
-        Span::Cut => TargetAt::Cut,
-        Span::Whole(start, end) => TargetAt::Whole(Goal::Letters(start, end), end),
-    }
-}
-
-// The target by its matrix, at `at`.
-fn matrix_target(card: &[u8], at: usize) -> TargetAt
-    ensures { TargetIs card.now (matrix_target (drop at card.now)) result }
-{
-    match matrix_after(card, at) {
-        MatrixAt::Cut => TargetAt::Cut,
-        MatrixAt::Whole(m) => TargetAt::Whole(Goal::Entries(m), at + 32),
-    }
-}
-
-// The target of a card, at `at`.
-pub(crate) fn target(card: &[u8], map: u8, at: usize) -> TargetAt
-    requires { at ≤ length card.now }
-    ensures { TargetIs card.now (target_field map (drop at card.now)) result }
-{
-    if has(map, 2) {
-        return letters_target(card, at);
-    }
-    if has(map, 4) {
-        return matrix_target(card, at);
-    }
-    TargetAt::Whole(Goal::Letters(at, at), at)
-}
-
-// The place behind `count` generators, of which the first one's length stands at `at`.
-fn skip(card: &[u8], count: usize, at: usize) -> Skipped
-    requires { at ≤ length card.now }
-    ensures { SkippedTo card.now (generator_fields count (drop at card.now)) result }
-{
-    let mut left = count;
-    let mut end = at;
-    while 0 < left {
-        match letters_after(card, end) {
-            Span::Cut => return Skipped::Cut,
-            Span::Whole(_, next) => {
-                end = next;
-            }
-        }
-        left -= 1;
-    }
-    Skipped::To(end)
-}
-
-// The generators behind their number, which stands at `at`.
-fn counted_list(card: &[u8], at: usize) -> ListAt
-    ensures { ListIs card.now (counted_list (drop at card.now)) result }
-{
-    match byte_after(card, at) {
-        Byte::Cut => ListAt::Cut,
-        Byte::Whole(count) => {
-            let start = at + 1;
-            match skip(card, count as usize, start) {
-                Skipped::Cut => ListAt::Cut,
-                Skipped::To(end) => ListAt::Whole(count as usize, start, end),
-            }
-        }
-    }
-}
-
-// The list of a card, at `at`.
-pub(crate) fn list(card: &[u8], map: u8, at: usize) -> ListAt
-    requires { at ≤ length card.now }
-    ensures { ListIs card.now (list_field map (drop at card.now)) result }
-{
-    if has(map, 8) {
-        return counted_list(card, at);
-    }
-    ListAt::Whole(0, at, at)
+        card,
+    ))
 }

@@ -4,7 +4,7 @@
 
 ghost use Rattle.std.specs.Prelude.{◌≡◌, ◌+◌, ◌*◌};
 
-use showing::Printed;
+use showing::PrintError;
 use std::io;
 use std::io::{ErrorKind, Read, Write};
 
@@ -26,8 +26,8 @@ fn print_answer(output: &mut impl Write, card: &[u8]) -> io::Result<()> {
     let mut witness = [255u8; FACTORS];
     let answer = cards::answer_card(card, &mut first, &mut second, &mut witness);
     match showing::line(output, answer, &witness) {
-        Printed::Whole | Printed::FactorsMissing | Printed::TooLong => Ok(()),
-        Printed::Failed(error) => Err(error),
+        Err(PrintError::Failed(error)) => Err(error),
+        Ok(()) | Err(PrintError::FactorsMissing) | Err(PrintError::TooLong) => Ok(()),
     }
 }
 

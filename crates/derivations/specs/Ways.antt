@@ -9,6 +9,7 @@ use Rattle.std.specs.Prelude.{Bool, false, List, ℕ, zero, suc, ◌+◌, ◌-�
 use Rattle.refusals.specs.Telling.{pick}
 use Rattle.trees.specs.Tree.{at, most_of_entry}
 use Rattle.tables.specs.Rules.{place}
+use Rattle.derivations.specs.declared.Setting.{Setting}
 use Rattle.derivations.specs.declared.Parts.{Parts}
 use Rattle.derivations.specs.declared.Parts.TheVariants.{One, Two, Nothing}
 
@@ -147,6 +148,12 @@ world count letters rests children_r children_s wholes target counts =
       target = target;
       counts = counts;
     }
+
+-- what a setting of the code says
+abbrev pub world_of : Setting → World
+world_of s =
+    let t = s.tree in
+    world t.count t.letters.now t.rests.now t.children_r.now t.children_s.now t.wholes.now s.target.now s.counts.now
 
 abbrev pub parts_in : World → ℕ → ℕ → ℕ → Parts
 parts_in w x y d = parts w.count w.letters w.rests w.children_r w.children_s w.wholes w.target w.counts x y d

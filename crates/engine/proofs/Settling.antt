@@ -4,6 +4,7 @@ use Prim.Native.Nat.{ℕ, suc, ◌+◌, ◌*◌, ◌≤◌}
 use native.Mathlib.Nat.{mul-le-mul}
 use native.Mathlib.Omega.{arith}
 use lib.ListN.{length}
+use Rattle.std.specs.Prelude.{Some, None, Ok, Err}
 use Rattle.words.specs.Word.{Word}
 use Rattle.words.specs.Bytes.{word}
 use Rattle.products.specs.Product.{plain}
@@ -13,9 +14,7 @@ use Rattle.trees.specs.Numbering.{numbered}
 use Rattle.trees.proofs.Remaining.{drop_later}
 use Rattle.tables.proofs.Exact.{tree_fits}
 use Rattle.queries.specs.Ready.{ReadyFor}
-use Rattle.search.specs.Search.{Lent, used, Fits, Posed, Answers, Searches}
-use Rattle.search.specs.declared.Found.{Found}
-use Rattle.search.specs.declared.Found.TheVariants.{Series, None, Unfit}
+use Rattle.search.specs.Search.{Found, Lent, used, Fits, Posed, Answers, Searches}
 use Rattle.engine.specs.Calls.{VerdictRight}
 use Rattle.engine.specs.Judging.{of_found, Settled}
 
@@ -29,9 +28,9 @@ used_within m t count few =
 -- an answer is a verdict
 verdict_right : (gens : List Word) (form : List ℕ) (n : ℕ) (before after : List ℕ) (found : Found) → Answers gens form n before found after
     → VerdictRight (plain gens) (word form) n (of_found found) before after
-verdict_right gens form n before after (Series k) right = right
-verdict_right gens form n before after None right = right
-verdict_right gens form n before after Unfit right = right
+verdict_right gens form n before after (Ok (Some k)) right = right
+verdict_right gens form n before after (Ok None) right = right
+verdict_right gens form n before after (Err _) right = right
 
 module _ (n : ℕ) {gens : List Word} {m count : ℕ} {letters rests children_r children_s wholes form : List ℕ}
     (ready : ReadyFor gens m count letters rests children_r children_s wholes form) where

@@ -5,47 +5,39 @@ ghost use Rattle.words.specs.Word.{Word};
 ghost use Rattle.words.specs.Bytes.{word};
 ghost use Rattle.products.specs.Product.{plain};
 ghost use Rattle.sizes.specs.Questions.{side, of_sizes};
-ghost use Rattle.queries.specs.Ready.{ReadyFor};
+ghost use Rattle.queries.specs.Ready.{ReadyTree};
+ghost use Rattle.refusals.specs.Questions.{passed};
 ghost use Rattle.engine.specs.Judging.{of_found, Settled, SettlesForm, JudgesForm};
 
-use crate::Verdict;
-use search::Found;
-use words::{Asked, Factors, Letters, Refusal};
+use trees::{SuffixTree, Unfit};
+use words::{Factors, Letters, Refusal};
 
 // The verdict that a search comes to. What is searched here fits; were it not so, a refusal would lose nothing.
-fn verdict_of(found: Found) -> Verdict
+fn verdict_of(found: Result<Option<Factors>, Unfit>) -> Result<Option<Factors>, Refusal>
     ensures { result ≡ of_found found }
 {
     match found {
-        Found::Series(count) => Verdict::Member(count),
-        Found::None => Verdict::None,
-        Found::Unfit => Verdict::Refused(Refusal::TableTooShort),
+        Ok(series) => Ok(series),
+        Err(_) => Err(Refusal::TableTooShort),
     }
 }
 
 // The verdict on a reduced target: what the search finds.
 fn decide(
     form: &[u8],
-    count: usize,
-    letters: &[u8],
-    rests: &[u16],
-    children_r: &[u16],
-    children_s: &[u16],
-    wholes: &[u16],
+    tree: &SuffixTree,
     n: Factors,
     first: &mut [u16],
     second: &mut [u16],
     witness: &mut [u8],
-) -> Verdict
-    ensures { (gens : List Word) (m : ℕ) → ReadyFor gens m count letters.now rests.now children_r.now children_s.now wholes.now form.now
-        → of_sizes m (length form.now) n.0 (length first.old) (length second.old) (length witness.old) ≡ Asked.Passed
+) -> Result<Option<Factors>, Refusal>
+    ensures { (gens : List Word) (m : ℕ) → ReadyTree gens m tree.now form.now
+        → of_sizes m (length form.now) n.0 (length first.old) (length second.old) (length witness.old) ≡ passed
         → Settled (side m (length form.now)) (plain gens) (word form.now) n.0 result
         (record { first = first.old; second = second.old; witness = witness.old })
         (record { first = first.new; second = second.new; witness = witness.new }) }
 {
-    verdict_of(search::least(
-        form, count, letters, rests, children_r, children_s, wholes, n, first, second, witness,
-    ))
+    verdict_of(search::least(form, tree, n, first, second, witness))
 }
 
 // The verdict on what is ready, once the sizes have passed questions 12 to 15; then both tables are zeroed. A form that is longer than any that is ready is
@@ -53,31 +45,24 @@ fn decide(
 pub fn settle(
     form: &[u8],
     m: Letters,
-    count: usize,
-    letters: &[u8],
-    rests: &[u16],
-    children_r: &[u16],
-    children_s: &[u16],
-    wholes: &[u16],
+    tree: &SuffixTree,
     n: Factors,
     first: &mut [u16],
     second: &mut [u16],
     witness: &mut [u8],
-) -> Verdict
-    ensures { (gens : List Word) → ReadyFor gens m.0 count letters.now rests.now children_r.now children_s.now wholes.now form.now
+) -> Result<Option<Factors>, Refusal>
+    ensures { (gens : List Word) → ReadyTree gens m.0 tree.now form.now
         → SettlesForm m.0 gens (word form.now) n.0 result
         (record { first = first.old; second = second.old; witness = witness.old })
         (record { first = first.new; second = second.new; witness = witness.new }) }
 {
     if limits::WORD_LETTERS < form.len() {
-        return Verdict::Refused(Refusal::TooManyLetters);
+        return Err(Refusal::TooManyLetters);
     }
-    let t = form.len() as u16;
-    let verdict = decide(
-        form, count, letters, rests, children_r, children_s, wholes, n, first, second, witness,
-    );
-    sizes::zero_table(first, m, Letters(t));
-    sizes::zero_table(second, m, Letters(t));
+    let t = Letters(form.len() as u16);
+    let verdict = decide(form, tree, n, first, second, witness);
+    sizes::zero_table(first, m, t);
+    sizes::zero_table(second, m, t);
     verdict
 }
 
@@ -85,29 +70,19 @@ pub fn settle(
 pub(crate) fn judge_form(
     form: &[u8],
     m: Letters,
-    count: usize,
-    letters: &[u8],
-    rests: &[u16],
-    children_r: &[u16],
-    children_s: &[u16],
-    wholes: &[u16],
+    tree: &SuffixTree,
     n: Factors,
     first: &mut [u16],
     second: &mut [u16],
     witness: &mut [u8],
-) -> Verdict
+) -> Result<Option<Factors>, Refusal>
     requires { length form.now ≤ most_letters }
-    ensures { (gens : List Word) → ReadyFor gens m.0 count letters.now rests.now children_r.now children_s.now wholes.now form.now
+    ensures { (gens : List Word) → ReadyTree gens m.0 tree.now form.now
         → JudgesForm m.0 gens (word form.now) n.0 result
         (record { first = first.old; second = second.old; witness = witness.old })
         (record { first = first.new; second = second.new; witness = witness.new }) }
 {
-    let t = form.len() as u16;
-    match sizes::of_sizes(m, Letters(t), n, first.len(), second.len(), witness.len()) {
-        Asked::Refused(refusal) => Verdict::Refused(refusal),
-        Asked::Passed => settle(
-            form, m, count, letters, rests, children_r, children_s, wholes, n, first, second,
-            witness,
-        ),
-    }
+    let t = Letters(form.len() as u16);
+    sizes::of_sizes(m, t, n, first.len(), second.len(), witness.len())?;
+    settle(form, m, tree, n, first, second, witness)
 }

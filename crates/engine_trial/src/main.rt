@@ -3,12 +3,9 @@
 // 255, the first bytes and how many are still full. What it must print stands in `stdout`.
 #![tactic(auto)]
 
-mod printing;
+ghost use Rattle.std.specs.Prelude.{◌^◌, ◌<◌};
+ghost use Rattle.engine.specs.Calls.{Verdict, Judges};
 
-ghost use Rattle.std.specs.Prelude.{IfOk};
-ghost use Rattle.engine.specs.Calls.{Judges};
-
-use engine::Verdict;
 use std::io;
 use std::io::Write;
 use words::Factors;
@@ -49,19 +46,44 @@ fn judge(
     first: &mut [u16],
     second: &mut [u16],
     witness: &mut [u8],
-) -> io::Result<Verdict>
-    ensures { IfOk result (λ verdict. Judges bytes.now ends.now target.now n verdict
+) -> io::Result<()>
+    ensures { (verdict : Verdict) × Judges bytes.now ends.now target.now n verdict
         (record { first = first.old; second = second.old; witness = witness.old })
-        (record { first = first.new; second = second.new; witness = witness.new })) }
+        (record { first = first.new; second = second.new; witness = witness.new }) }
 {
-    showing::lists::call(output, bytes, ends, target, n)?;
     let verdict = engine::judge(bytes, ends, target, Factors(n), first, second, witness);
-    printing::verdict(output, verdict)?;
+    showing::lists::call(output, bytes, ends, target, n)?;
+    showing::verdict(output, verdict)?;
     showing::lent::table(output, first)?;
     showing::lent::table(output, second)?;
     showing::lent::witness(output, witness)?;
-    writeln!(output)?;
-    Ok(verdict)
+    writeln!(output)
+}
+
+// Lends two tables of so many entries, full of 65,535, and a witness of so many bytes, full of 255.
+fn lending<const ENTRIES: usize, const BYTES: usize>(
+    output: &mut impl Write,
+    bytes: &[u8],
+    ends: &[u16],
+    target: &[u8],
+    n: u16,
+) -> io::Result<()>
+    requires entries { ENTRIES < 2 ^ 32 }
+    requires witness { BYTES < 2 ^ 32 }
+{
+    let mut first = [65535u16; ENTRIES];
+    let mut second = [65535u16; ENTRIES];
+    let mut witness = [255u8; BYTES];
+    judge(
+        output,
+        bytes,
+        ends,
+        target,
+        n,
+        &mut first,
+        &mut second,
+        &mut witness,
+    )
 }
 
 fn small(
@@ -71,20 +93,7 @@ fn small(
     target: &[u8],
     n: u16,
 ) -> io::Result<()> {
-    let mut first = [65535u16; TABLE];
-    let mut second = [65535u16; TABLE];
-    let mut witness = [255u8; WITNESS];
-    judge(
-        output,
-        bytes,
-        ends,
-        target,
-        n,
-        &mut first,
-        &mut second,
-        &mut witness,
-    )?;
-    Ok(())
+    lending::<TABLE, WITNESS>(output, bytes, ends, target, n)
 }
 
 fn large(
@@ -94,20 +103,7 @@ fn large(
     target: &[u8],
     n: u16,
 ) -> io::Result<()> {
-    let mut first = [65535u16; LARGEST_TABLE];
-    let mut second = [65535u16; LARGEST_TABLE];
-    let mut witness = [255u8; WITNESS];
-    judge(
-        output,
-        bytes,
-        ends,
-        target,
-        n,
-        &mut first,
-        &mut second,
-        &mut witness,
-    )?;
-    Ok(())
+    lending::<LARGEST_TABLE, WITNESS>(output, bytes, ends, target, n)
 }
 
 fn without_list(output: &mut impl Write, target: &[u8], n: u16) -> io::Result<()> {
@@ -165,21 +161,14 @@ fn relations(output: &mut impl Write) -> io::Result<()> {
 // A generator of 80 letters and its inverse, which has 80 too. No two of their suffixes are the same, so there are as many states as q is, and the tables
 // are used to their last entries.
 fn whole_square(output: &mut impl Write) -> io::Result<()> {
-    let mut first = [65535u16; SQUARE];
-    let mut second = [65535u16; SQUARE];
-    let mut witness = [255u8; WITNESS];
     let ends = [80u16, 160];
-    judge(
+    lending::<SQUARE, WITNESS>(
         output,
         b"RSRSSRSRSSRSRSSRSRSSRSRSSRSRSSRSRSSRSRSSRSRSSRSRSSRSRSSRSRSSRSRSSRSRSSRSRSSRSRSSSRSSRSRSSRSRSSRSRSSRSRSSRSRSSRSRSSRSRSSRSRSSRSRSSRSRSSRSRSSRSRSSRSRSSRSRSSRSRSSR",
         &ends,
         b"",
         2,
-        &mut first,
-        &mut second,
-        &mut witness,
-    )?;
-    Ok(())
+    )
 }
 
 // The count is the bound, is above it, and is far below it.
@@ -217,11 +206,11 @@ fn many_generators(output: &mut impl Write) -> io::Result<()> {
 
 // As many letters as there may be, which reduce to nothing, and one more.
 fn many_letters(output: &mut impl Write) -> io::Result<()> {
-    let letters = [82u8; LETTERS];
+    let letters = [b'R'; LETTERS];
     let ends = [4096u16];
     small(output, &letters, &ends, &letters, 1000)?;
     small(output, &letters, &ends, b"R", 1000)?;
-    let too_many = [82u8; TOO_MANY_LETTERS];
+    let too_many = [b'R'; TOO_MANY_LETTERS];
     let too_far = [4097u16];
     small(output, &too_many, &too_far, b"R", 1000)?;
     small(output, &letters, &ends, &too_many, 1000)
@@ -322,8 +311,7 @@ fn bounds_too_large(output: &mut impl Write) -> io::Result<()> {
         &mut first,
         &mut second,
         &mut witness,
-    )?;
-    Ok(())
+    )
 }
 
 // Question 14: n 0 with no witness, and P10 with a witness of 2 bytes and of 3.
@@ -363,8 +351,7 @@ fn witness_rooms(output: &mut impl Write) -> io::Result<()> {
         &mut first,
         &mut second,
         &mut three,
-    )?;
-    Ok(())
+    )
 }
 
 // Question 15: q is 15.
@@ -403,31 +390,7 @@ fn table_rooms(output: &mut impl Write) -> io::Result<()> {
         &mut first,
         &mut second,
         &mut witness,
-    )?;
-    Ok(())
-}
-
-fn lending_a_witness(
-    output: &mut impl Write,
-    bytes: &[u8],
-    ends: &[u16],
-    target: &[u8],
-    n: u16,
-) -> io::Result<()> {
-    let mut first = [65535u16; 0];
-    let mut second = [65535u16; 0];
-    let mut witness = [255u8; WITNESS];
-    judge(
-        output,
-        bytes,
-        ends,
-        target,
-        n,
-        &mut first,
-        &mut second,
-        &mut witness,
-    )?;
-    Ok(())
+    )
 }
 
 fn lending_nothing(
@@ -437,30 +400,17 @@ fn lending_nothing(
     target: &[u8],
     n: u16,
 ) -> io::Result<()> {
-    let mut first = [65535u16; 0];
-    let mut second = [65535u16; 0];
-    let mut witness = [255u8; 0];
-    judge(
-        output,
-        bytes,
-        ends,
-        target,
-        n,
-        &mut first,
-        &mut second,
-        &mut witness,
-    )?;
-    Ok(())
+    lending::<0, 0>(output, bytes, ends, target, n)
 }
 
 // At first the answer to every question from 7 to 15 is no, and then from call to call one more is yes.
 fn lowest_of_many(output: &mut impl Write) -> io::Result<()> {
-    let far_too_many = [88u8; TOO_MANY_LETTERS];
+    let far_too_many = [b'X'; TOO_MANY_LETTERS];
     let too_many_ends = [0u16; TOO_MANY_GENERATORS];
     lending_nothing(output, &far_too_many, &too_many_ends, &far_too_many, 1001)?;
     let wrong_ends = [0u16; GENERATORS];
     lending_nothing(output, &far_too_many, &wrong_ends, &far_too_many, 1001)?;
-    let wrong_letters = [88u8; LETTERS];
+    let wrong_letters = [b'X'; LETTERS];
     lending_nothing(output, &wrong_letters, &wrong_ends, &far_too_many, 1001)?;
     lending_nothing(output, &wrong_letters, &wrong_ends, &wrong_letters, 1001)?;
     let ends = [4096u16; GENERATORS];
@@ -494,7 +444,7 @@ fn lowest_of_the_rest(output: &mut impl Write) -> io::Result<()> {
     )?;
     lending_nothing(output, b"SR", &ends, b"SRSRSR", 1001)?;
     lending_nothing(output, b"SR", &ends, b"SRSRSR", 1000)?;
-    lending_a_witness(output, b"SR", &ends, b"SRSRSR", 1000)?;
+    lending::<0, WITNESS>(output, b"SR", &ends, b"SRSRSR", 1000)?;
     small(output, b"SR", &ends, b"SRSRSR", 1000)
 }
 

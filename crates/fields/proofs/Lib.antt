@@ -1,3 +1,2 @@
 pub mod Reading
-mod PlacedNumbers
 mod LetterSpans

@@ -1,5 +1,6 @@
 -- What is read of bytes, where it is whole and where it is cut off, and that what is spelled is read again.
 --     bytes_whole, number_whole, bytes_cut, number_cut    at a place of a card: whole exactly where that many bytes are left
+--     field_whole                                         what an answer says of the field
 --     after_number, after_signed                          what stands behind a field that was read
 --     number_spelled, complement_read                     a number is found again in its bytes, a signed one in its two's complement
 --     bytes_read, number_read, letters_read, signed_read  a field that is written in front of a rest is read, and the rest is left
@@ -14,6 +15,8 @@ use lib.Seq.{take-append_seam, drop-append_seam, drop-drop}
 use lib.IntN.{ℤ, pos, negsuc}
 use lib.Signed.{mag}
 use borrow.Author.Tests.{le-leb, lt-leb}
+use Rattle.std.specs.Prelude.{Some}
+use Rattle.fields.specs.Answers.{whole_of}
 use Rattle.fields.specs.Field.{Read, Whole, Cut, next, bytes_field, number, number_field, twos_complement, signed_field, letters_field, spelled, complement}
 
 -- ---- at a place of a card. No bytes are whole anywhere, behind the card's end too.
@@ -37,12 +40,17 @@ signed_whole card at h = rw (number_whole 8 card at h)
 pub signed_cut : (card : List ℕ) (at : ℕ) → length card - at < 8 → signed_field (drop at card) ≡ Cut
 signed_cut card at h = rw (number_cut 8 card at h)
 
+-- what an answer says of the field
+pub field_whole : (field : Read ℕ) {n : ℕ} → Some n ≡ whole_of field → (rest : List ℕ) × (field ≡ Whole n rest)
+field_whole (Whole m rest) {n} e = (rest, cc)
+field_whole Cut e = absurd (cc)
+
 -- A field of some bytes, one at least, that is whole where they are left, and cut off where they are not: behind it stands what stands behind them.
 behind : {A : Type 0} (k : ℕ) (card : List ℕ) (at : ℕ) {field : Read A} {a b : A} {rest : List ℕ} → zero < k
     → (at + k ≤ length card → field ≡ Whole a (drop (at + k) card)) → (length card - at < k → field ≡ Cut)
     → field ≡ Whole b rest → (rest ≡ drop (at + k) card) × (at + k ≤ length card)
 behind k card at {field} {a} {b} {rest} h whole cut e = elim (dec_lt (length card - at) k) [
-  | yes short ↦ let f : field ≡ Cut = cut short in let z : ◌≡◌ {A = ℕ} 0 1 = cc in absurd (omega arith)
+  | yes short ↦ let f : field ≡ Cut = cut short in absurd (cc)
   | no long ↦
       let fits : at + k ≤ length card = omega arith in
       let f : field ≡ Whole a (drop (at + k) card) = whole fits in

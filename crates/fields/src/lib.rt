@@ -1,68 +1,38 @@
-// The fields of a query card, one at a time, from a place in a slice of any length. A field that is not whole is said to be cut off, wherever
-// the place is.
+// The fields of a query card, one at a time, from a place in a slice of any length. A field that is not whole, wherever the place is, is none.
 #![tactic(auto)]
 
-mod complement;
-mod placed;
 pub mod reader;
 
 ghost use Rattle.std.specs.Prelude.{◌≡◌, drop};
 ghost use Rattle.fields.specs.Field.{signed_field, letters_field};
-ghost use Rattle.fields.specs.Answers.{signed_of, SpanOf};
-
-#[derive(Clone, Copy)]
-pub enum Byte {
-    Whole(u8),
-    Cut,
-}
-
-// A number of 16 bits.
-#[derive(Clone, Copy)]
-pub enum Short {
-    Whole(u16),
-    Cut,
-}
-
-// A signed number of 64 bits.
-#[derive(Clone, Copy)]
-pub enum Signed {
-    Whole(i64),
-    Cut,
-}
+ghost use Rattle.fields.specs.Answers.{whole_of, SpanOf};
 
 // Letters with their length in front: where they start and where they end.
-#[derive(Clone, Copy)]
-pub enum Span {
-    Whole(usize, usize),
-    Cut,
+#[derive(Clone, Copy, Debug, PartialEq, Eq)]
+pub struct Span {
+    pub start: usize,
+    pub end: usize,
 }
 
 // The letters whose length stands at `at`.
-pub fn letters_after(card: &[u8], at: usize) -> Span
+pub fn letters_after(card: &[u8], at: usize) -> Option<Span>
     ensures { SpanOf card.now (letters_field (drop at card.now)) result }
 {
-    match reader::short_after(card, at) {
-        Short::Cut => Span::Cut,
-        Short::Whole(len) => {
-            let start = at + 2;
-            let len = len as usize;
-            if card.len() - start < len {
-                return Span::Cut;
-            }
-            Span::Whole(start, start + len)
-        }
+    let len = reader::short_after(card, at)? as usize;
+    let start = at + 2;
+    if card.len() - start < len {
+        return None;
     }
+    Some(Span {
+        start,
+        end: start + len,
+    })
 }
 
 // The signed 64-bit number at `at`.
-pub fn signed_after(card: &[u8], at: usize) -> Signed
-    ensures { result ≡ signed_of (signed_field (drop at card.now)) }
+pub fn signed_after(card: &[u8], at: usize) -> Option<i64>
+    ensures { result ≡ whole_of (signed_field (drop at card.now)) }
 {
-    if card.len() < 8 {
-        return Signed::Cut;
-    }
-    if card.len() - 8 < at {
-        return Signed::Cut;
-    }
-    Signed::Whole(complement::signed(complement::unsigned(&card[at..at + 8])))
+    let bytes = card.get(at..)?.first_chunk::<8>()?;
+    Some(i64::from_le_bytes(*bytes))
 }

@@ -8,29 +8,47 @@ mod shifts;
 mod target_rows;
 mod weights;
 
-ghost use Rattle.std.specs.Prelude.{◌≡◌, ◌≤◌};
+ghost use Rattle.std.specs.Prelude.{◌≡◌, length, ◌≤◌};
 ghost use Rattle.refusals.specs.Telling.{Tells};
 ghost use Rattle.trees.specs.Tree.{most_of_entry};
 ghost use Rattle.derivations.specs.Derivations.{Alone, Tight};
-ghost use Rattle.derivations.specs.Ways.{world, parts_in, weigh, ways as ways_of};
+ghost use Rattle.derivations.specs.Ways.{parts_in, weight_in, world_of, ways as ways_of};
+ghost use Rattle.items.specs.Counts.{weigh_by};
 
-use derivations::Parts;
+use derivations::{Parts, Setting};
+
+// The table of counts, and the numbers that it is read by: of nodes, of generators, and of the target's letters. They need not be the lengths of any slices.
+#[derive(Clone, Copy)]
+pub struct Counts<'a> {
+    pub count: usize,
+    pub generators: usize,
+    pub letters: usize,
+    pub entries: &'a [u16],
+}
+
+impl<'a> Counts<'a> {
+    // Those of a setting.
+    #[inline(always)]
+    pub fn of(setting: &Setting<'a>) -> Counts<'a>
+        ensures { weigh_by result ≡ weight_in (world_of setting.now) }
+    {
+        Counts {
+            count: setting.tree.count,
+            generators: setting.tree.wholes.len(),
+            letters: setting.target.len(),
+            entries: setting.counts,
+        }
+    }
+}
 
 // What an item weighs.
-pub fn weight(
-    count: usize,
-    generators: usize,
-    letters: usize,
-    counts: &[u16],
-    x: usize,
-    y: usize,
-) -> usize
-    ensures { (result ≡ weigh count generators letters counts.now x y) × (result ≤ most_of_entry) }
+pub fn weight(counts: &Counts, x: usize, y: usize) -> usize
+    ensures { (result ≡ weigh_by counts.now x y) × (result ≤ most_of_entry) }
 {
     if x == 0 {
-        return weights::of_factor(generators, y);
+        return weights::of_factor(counts.generators, y);
     }
-    weights::in_table(count, letters, counts, x - 1, y)
+    weights::in_table(counts, x - 1, y)
 }
 
 // No way of an item from this number on has parts that weigh what the item does.
@@ -50,50 +68,31 @@ pub fn ways(count: usize, generators: usize, x: usize) -> usize
 }
 
 // The parts of an item in a way.
-pub fn parts(
-    target: &[u8],
-    count: usize,
-    letters: &[u8],
-    rests: &[u16],
-    children_r: &[u16],
-    children_s: &[u16],
-    wholes: &[u16],
-    counts: &[u16],
-    x: usize,
-    y: usize,
-    d: usize,
-) -> Parts
-    ensures { result ≡ parts_in (world count letters.now rests.now children_r.now children_s.now
-        wholes.now target.now counts.now) x y d }
+pub fn parts(setting: &Setting, x: usize, y: usize, d: usize) -> Parts
+    ensures { result ≡ parts_in (world_of setting.now) x y d }
 {
     if x == 0 {
         return Parts::Nothing;
     }
-    if x - 1 < count {
-        return pairs::of_pair(
-            count, letters, rests, children_r, children_s, wholes, counts, x, y, d,
-        );
+    if x - 1 < setting.tree.count {
+        return pairs::of_pair(&setting.tree, setting.counts, x, y, d);
     }
-    target_rows::next_row(target, count, children_r, children_s, x - 1 - count, y, d)
+    target_rows::next_row(
+        &setting.tree,
+        setting.target,
+        x - 1 - setting.tree.count,
+        y,
+        d,
+    )
 }
 
 // Are the parts tight at the item?
-pub fn is_tight(
-    count: usize,
-    generators: usize,
-    letters: usize,
-    counts: &[u16],
-    x: usize,
-    y: usize,
-    p: Parts,
-) -> bool
-    ensures { Tells result (Tight (weigh count generators letters counts.now) x y p) }
+pub fn is_tight(counts: &Counts, x: usize, y: usize, p: Parts) -> bool
+    ensures { Tells result (Tight (weigh_by counts.now) x y p) }
 {
     match p {
-        Parts::One(a, b) => weights::one_is_tight(count, generators, letters, counts, x, y, a, b),
-        Parts::Two(a, b, c, d) => {
-            weights::two_are_tight(count, generators, letters, counts, x, y, a, b, c, d)
-        }
+        Parts::One(a, b) => weights::one_is_tight(counts, x, y, a, b),
+        Parts::Two(a, b, c, d) => weights::two_are_tight(counts, x, y, a, b, c, d),
         Parts::Nothing => false,
     }
 }
@@ -103,8 +102,8 @@ pub fn alone(x: usize, p: Parts) -> bool
     ensures { Tells result (Alone x p) }
 {
     match p {
-        Parts::One(a, b) => true,
-        Parts::Two(a, b, c, d) => x == 1,
+        Parts::One(..) => true,
+        Parts::Two(..) => x == 1,
         Parts::Nothing => false,
     }
 }

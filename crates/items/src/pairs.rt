@@ -5,6 +5,7 @@ ghost use Rattle.derivations.specs.Ways.{by_factor, of_pair};
 use crate::halves::halves;
 use crate::shifts::{only_one, shift};
 use derivations::Parts;
+use trees::SuffixTree;
 use trees::entries::entry;
 
 // From node 0: the factor d begins.
@@ -24,28 +25,16 @@ fn by_factor(wholes: &[u16], counts: &[u16], y: usize, d: usize) -> Parts
 }
 
 // The parts of the pair (x - 1, y) in a way.
-pub(crate) fn of_pair(
-    count: usize,
-    letters: &[u8],
-    rests: &[u16],
-    children_r: &[u16],
-    children_s: &[u16],
-    wholes: &[u16],
-    counts: &[u16],
-    x: usize,
-    y: usize,
-    d: usize,
-) -> Parts
+pub(crate) fn of_pair(tree: &SuffixTree, counts: &[u16], x: usize, y: usize, d: usize) -> Parts
     requires { 1 ≤ x }
-    ensures { result ≡ of_pair count letters.now rests.now children_r.now children_s.now
-        wholes.now counts.now (x - 1) y d }
+    ensures { result ≡ of_pair tree.now.count tree.now.letters.now tree.now.rests.now tree.now.children_r.now
+        tree.now.children_s.now tree.now.wholes.now counts.now (x - 1) y d }
 {
     if x == 1 {
-        return by_factor(wholes, counts, y, d);
+        return by_factor(tree.wholes, counts, y, d);
     }
-    match shift(letters, rests, children_r, children_s, x - 1, y) {
+    match shift(tree, x - 1, y) {
         Parts::One(a, b) => only_one(d, a, b),
-        Parts::Two(a, b, c, e) => halves(count, letters, rests, children_r, children_s, x, y, d),
-        Parts::Nothing => halves(count, letters, rests, children_r, children_s, x, y, d),
+        _ => halves(tree, x, y, d),
     }
 }

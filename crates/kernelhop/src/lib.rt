@@ -3,20 +3,18 @@
 
 mod telling;
 
-ghost use Rattle.std.specs.Prelude.{◌≡◌, length};
+ghost use Rattle.std.specs.Prelude.{Bool, Result, ◌≡◌, length};
 ghost use Rattle.words.specs.Word.{nf, inverse};
 ghost use Rattle.words.specs.Calls.{Reduces, Writes, Tests};
-ghost use Rattle.words.specs.declared.Reduction.{Reduction as words·Reduction};
-ghost use Rattle.words.specs.declared.Written.{Written};
-ghost use Rattle.words.specs.declared.Tested.{Tested};
+ghost use Rattle.words.specs.declared.Account.{Account};
+ghost use Rattle.words.specs.declared.Letters.{Letters};
+ghost use Rattle.refusals.specs.declared.Refusal.{Refusal};
 ghost use Rattle.matrices.specs.Calls.{TurnsWord, TurnsMatrix};
-ghost use Rattle.matrices.specs.declared.Turned.{Turned};
-ghost use Rattle.engine.specs.Calls.{Judges};
-ghost use Rattle.engine.specs.declared.Verdict.{Verdict};
+ghost use Rattle.matrices.specs.declared.Matrix.{Matrix};
+ghost use Rattle.engine.specs.Calls.{Verdict, Judges};
 ghost use Rattle.subgroups.specs.Calls.{JudgesSigned};
 ghost use Rattle.subgroups.specs.Parts.{part_of};
-ghost use Rattle.reach.specs.Calls.{Reaches};
-ghost use Rattle.reach.specs.declared.Reached.{Reached};
+ghost use Rattle.reach.specs.Calls.{Reached, Reaches};
 ghost use Rattle.quick.specs.Calls.{Answers};
 ghost use Rattle.quick.specs.declared.Quick.{Quick};
 ghost use Rattle.answers.specs.declared.Answer.{Answer};
@@ -24,7 +22,7 @@ ghost use Rattle.cards.specs.Calls.{AnswersCard};
 ghost use Rattle.kernelhop.specs.Release.{release};
 ghost use Rattle.kernelhop.specs.Outcome.{of_reduction, of_written, of_tested, of_turned, entries_or, of_verdict, of_part, of_reached, of_quick, of_answer};
 
-use matrices::{Matrix, Turned};
+use matrices::Matrix;
 use words::Factors;
 
 // An answer: 0, and the length written, 1 for a normal word and 0 for another, the count of a member, 1 for a target that is reachable, or 0 for a matrix.
@@ -66,7 +64,7 @@ pub extern "C" fn kernelhop_version() -> u32
 // The same as words::reduce.
 #[unsafe(no_mangle)]
 pub extern "C" fn kernelhop_reduce(word: &[u8], out: &mut [u8]) -> Reduction
-    ensures { (w : words·Reduction) × Reduces word.now out.old w out.new × (result ≡ of_reduction w) }
+    ensures { (w : Result Account Refusal) × Reduces word.now out.old w out.new × (result ≡ of_reduction w) }
 {
     telling::reduction(words::reduce(word, out))
 }
@@ -74,7 +72,7 @@ pub extern "C" fn kernelhop_reduce(word: &[u8], out: &mut [u8]) -> Reduction
 // The same as words::invert.
 #[unsafe(no_mangle)]
 pub extern "C" fn kernelhop_invert(word: &[u8], out: &mut [u8]) -> Outcome
-    ensures { (w : Written) × Writes (λ x. nf (inverse x)) 2 word.now out.old w out.new × (result ≡ of_written w) }
+    ensures { (w : Result Letters Refusal) × Writes (λ x. nf (inverse x)) 2 word.now out.old w out.new × (result ≡ of_written w) }
 {
     telling::written(words::invert(word, out))
 }
@@ -82,7 +80,7 @@ pub extern "C" fn kernelhop_invert(word: &[u8], out: &mut [u8]) -> Outcome
 // The same as words::is_normal.
 #[unsafe(no_mangle)]
 pub extern "C" fn kernelhop_is_normal(word: &[u8]) -> Outcome
-    ensures { (t : Tested) × Tests word.now t × (result ≡ of_tested t) }
+    ensures { (t : Result Bool Refusal) × Tests word.now t × (result ≡ of_tested t) }
 {
     telling::tested(words::is_normal(word))
 }
@@ -90,17 +88,12 @@ pub extern "C" fn kernelhop_is_normal(word: &[u8]) -> Outcome
 // The same as matrices::word_to_matrix: a, b, c and d go into `out`, which a refusal leaves as it was.
 #[unsafe(no_mangle)]
 pub extern "C" fn kernelhop_word_to_matrix(word: &[u8], out: &mut [i64; 4]) -> Outcome
-    ensures { (t : Turned) × TurnsWord word.now t × (result ≡ of_turned t) × (out.new ≡ entries_or t out.old) }
+    ensures { (t : Result Matrix Refusal) × TurnsWord word.now t × (result ≡ of_turned t) × (out.new ≡ entries_or t out.old) }
 {
     match matrices::word_to_matrix(word) {
-        Turned::Refused(why) => telling::refusal(why),
-        Turned::Into(m) => {
-            // Only whole locals can be stored where signed numbers lie.
-            let a = m.a;
-            let b = m.b;
-            let c = m.c;
-            let d = m.d;
-            *out = [a, b, c, d];
+        Err(why) => telling::refusal(why),
+        Ok(m) => {
+            *out = [m.a, m.b, m.c, m.d];
             Outcome {
                 number: 0,
                 value: 0,
@@ -118,7 +111,7 @@ pub extern "C" fn kernelhop_matrix_to_word(
     d: i64,
     out: &mut [u8],
 ) -> Outcome
-    ensures { (w : Written) × TurnsMatrix (record { a = a; b = b; c = c; d = d }) out.old w out.new × (result ≡ of_written w) }
+    ensures { (w : Result Letters Refusal) × TurnsMatrix (record { a = a; b = b; c = c; d = d }) out.old w out.new × (result ≡ of_written w) }
 {
     telling::written(matrices::matrix_to_word(Matrix { a, b, c, d }, out))
 }
@@ -214,7 +207,7 @@ pub extern "C" fn kernelhop_reachable(
 // The same as quick::quick_no.
 #[unsafe(no_mangle)]
 pub extern "C" fn kernelhop_quick_no(bytes: &[u8], ends: &[u16], target: &[u8]) -> Outcome
-    ensures { (q : Quick) × Answers bytes.now ends.now target.now q × (result ≡ of_quick q) }
+    ensures { (q : Result Quick Refusal) × Answers bytes.now ends.now target.now q × (result ≡ of_quick q) }
 {
     telling::quick(quick::quick_no(bytes, ends, target))
 }
@@ -227,7 +220,7 @@ pub extern "C" fn kernelhop_answer_card(
     second: &mut [u16],
     witness: &mut [u8],
 ) -> Outcome
-    ensures { (v : Answer)
+    ensures { (v : Result Answer Refusal)
         × AnswersCard card.now v
         (record { first = first.old; second = second.old; witness = witness.old })
         (record { first = first.new; second = second.new; witness = witness.new })

@@ -1,13 +1,11 @@
 // An answer told by numbers: two, or four for a reduction.
 ghost use Rattle.std.specs.Prelude.{◌≡◌};
-ghost use Rattle.kernelhop.specs.Outcome.{of_refusal, of_reduction, of_written, of_tested, of_verdict, of_part, of_reached, of_quick, of_answer};
+ghost use Rattle.kernelhop.specs.Outcome.{yes as yes_of, no, of_refusal, of_reduction, of_written, of_tested, of_verdict, of_part, of_reached, of_quick, of_answer};
 
 use crate::{Outcome, Part, Reduction};
 use answers::Answer;
-use engine::Verdict;
 use quick::Quick;
-use reach::Reached;
-use words::{Factors, Refusal, Tested, Written};
+use words::{Account, Factors, Letters, Refusal};
 
 // The number that stands for none, and for a no: no question has it.
 const NONE: u8 = 255;
@@ -18,6 +16,22 @@ const OPEN: u8 = 254;
 // What is told for n where there is none.
 const NO_N: usize = 0;
 
+// An answer that has a value.
+fn yes(value: usize) -> Outcome
+    ensures { result ≡ yes_of value }
+{
+    Outcome { number: 0, value }
+}
+
+fn none(n: usize) -> Outcome
+    ensures { result ≡ no n }
+{
+    Outcome {
+        number: NONE,
+        value: n,
+    }
+}
+
 pub(crate) fn refusal(refusal: Refusal) -> Outcome
     ensures { result ≡ of_refusal refusal }
 {
@@ -27,17 +41,17 @@ pub(crate) fn refusal(refusal: Refusal) -> Outcome
     }
 }
 
-pub(crate) fn reduction(answer: words::Reduction) -> Reduction
+pub(crate) fn reduction(answer: Result<Account, Refusal>) -> Reduction
     ensures { result ≡ of_reduction answer }
 {
     match answer {
-        words::Reduction::Done(account) => Reduction {
+        Ok(account) => Reduction {
             number: 0,
             pairs: account.pairs,
             triples: account.triples,
-            value: account.kept.0 as usize,
+            value: usize::from(account.kept.0),
         },
-        words::Reduction::Refused(why) => Reduction {
+        Err(why) => Reduction {
             number: refusals::number(why),
             pairs: 0,
             triples: 0,
@@ -46,47 +60,32 @@ pub(crate) fn reduction(answer: words::Reduction) -> Reduction
     }
 }
 
-pub(crate) fn written(answer: Written) -> Outcome
+pub(crate) fn written(answer: Result<Letters, Refusal>) -> Outcome
     ensures { result ≡ of_written answer }
 {
     match answer {
-        Written::Length(letters) => Outcome {
-            number: 0,
-            value: letters.0 as usize,
-        },
-        Written::Refused(why) => refusal(why),
+        Ok(letters) => yes(usize::from(letters.0)),
+        Err(why) => refusal(why),
     }
 }
 
-pub(crate) fn tested(answer: Tested) -> Outcome
+pub(crate) fn tested(answer: Result<bool, Refusal>) -> Outcome
     ensures { result ≡ of_tested answer }
 {
     match answer {
-        Tested::Normal => Outcome {
-            number: 0,
-            value: 1,
-        },
-        Tested::NotNormal => Outcome {
-            number: 0,
-            value: 0,
-        },
-        Tested::Refused(why) => refusal(why),
+        Ok(true) => yes(1),
+        Ok(false) => yes(0),
+        Err(why) => refusal(why),
     }
 }
 
-pub(crate) fn verdict(n: Factors, answer: Verdict) -> Outcome
+pub(crate) fn verdict(n: Factors, answer: Result<Option<Factors>, Refusal>) -> Outcome
     ensures { result ≡ of_verdict n answer }
 {
     match answer {
-        Verdict::Member(count) => Outcome {
-            number: 0,
-            value: count.0 as usize,
-        },
-        Verdict::None => Outcome {
-            number: NONE,
-            value: n.0 as usize,
-        },
-        Verdict::Refused(why) => refusal(why),
+        Ok(Some(count)) => yes(usize::from(count.0)),
+        Ok(None) => none(usize::from(n.0)),
+        Err(why) => refusal(why),
     }
 }
 
@@ -109,50 +108,35 @@ pub(crate) fn part(part: subgroups::Part) -> Part
     }
 }
 
-pub(crate) fn reached(answer: Reached) -> Outcome
+pub(crate) fn reached(answer: Result<bool, Refusal>) -> Outcome
     ensures { result ≡ of_reached answer }
 {
     match answer {
-        Reached::Yes => Outcome {
-            number: 0,
-            value: 1,
-        },
-        Reached::No => Outcome {
-            number: NONE,
-            value: NO_N,
-        },
-        Reached::Refused(why) => refusal(why),
+        Ok(true) => yes(1),
+        Ok(false) => none(NO_N),
+        Err(why) => refusal(why),
     }
 }
 
-pub(crate) fn quick(answer: Quick) -> Outcome
+pub(crate) fn quick(answer: Result<Quick, Refusal>) -> Outcome
     ensures { result ≡ of_quick answer }
 {
     match answer {
-        Quick::No => Outcome {
-            number: NONE,
-            value: NO_N,
-        },
-        Quick::Open => Outcome {
+        Ok(Quick::No) => none(NO_N),
+        Ok(Quick::Open) => Outcome {
             number: OPEN,
             value: NO_N,
         },
-        Quick::Refused(why) => refusal(why),
+        Err(why) => refusal(why),
     }
 }
 
-pub(crate) fn card(answer: Answer) -> Outcome
+pub(crate) fn card(answer: Result<Answer, Refusal>) -> Outcome
     ensures { result ≡ of_answer answer }
 {
     match answer {
-        Answer::Member(count) => Outcome {
-            number: 0,
-            value: count.0 as usize,
-        },
-        Answer::None(n) => Outcome {
-            number: NONE,
-            value: n.0 as usize,
-        },
-        Answer::Refused(why) => refusal(why),
+        Ok(Answer::Member(count)) => yes(usize::from(count.0)),
+        Ok(Answer::None(n)) => none(usize::from(n.0)),
+        Err(why) => refusal(why),
     }
 }

@@ -1,23 +1,21 @@
 -- What is asked of a list that is reduced, by the tests that a program makes, and what its answer then is. Assumes nothing.
+use Rattle.std.specs.Prelude.{Ok, Err}
+use Rattle.refusals.specs.Questions.{Asked, passed, first_no, question14}
 use mathlib.Core.Path.{◌≡◌, refl, sym, ap, ap₂, subst, ◌∙◌}
 use mathlib.Core.List.{List, [], ◌∷◌}
-use Prim.Native.Nat.{ℕ, ◌≤◌, ◌<◌}
+use Prim.Native.Nat.{ℕ, ◌≤◌}
 use native.Mathlib.Omega.{arith}
 use lib.Dec.{leb}
 use lib.ListN.{length, take}
-use borrow.Author.Tests.{le-leb, lt-leb}
+use borrow.Author.Tests.{le-leb}
 use Rattle.words.specs.Word.{Word}
-use Rattle.refusals.specs.Questions.{first_no, question14}
 use Rattle.words.specs.Calls.{written}
 use Rattle.refusals.specs.declared.Refusal.{Refusal}
-use Rattle.refusals.specs.declared.Refusal.TheVariants.{GeneratorTooLong, OutputTooShort}
-use Rattle.refusals.specs.declared.Asked.{Asked}
-use Rattle.refusals.specs.declared.Asked.TheVariants.{Passed, Refused}
-use Rattle.refusals.proofs.Asking.{asks_yes, asks_no, yes_first, no_first, passed_first, refused_first, first_no_one, first_no_head, first_no_tail, first_no_passed, first_no_refused}
+use Rattle.refusals.specs.declared.Refusal.TheVariants.{OutputTooShort}
+use Rattle.refusals.proofs.Asking.{asks_yes, yes_first, passed_first, first_no_one, first_no_head, first_no_tail, first_no_passed, first_no_refused}
 use Rattle.words.proofs.Answering.{take_overwritten}
 use Rattle.products.specs.Product.{generators}
-use Rattle.products.proofs.Generators.{generators_length}
-use Rattle.lists.specs.Questions.{of_list, first_long, question11}
+use Rattle.lists.specs.Questions.{of_list, question11}
 use Rattle.lists.specs.NormalList.{total, normal_bytes, normal_ends}
 use Rattle.lists.specs.Calls.{of_reduced_list, HandsOver}
 use Rattle.lists.specs.Reducing.{Checked, of_room}
@@ -32,29 +30,16 @@ module _ (bytes ends : List ℕ) where
   abbrev gens : List Word
   gens = generators bytes ends
 
-  pub alone_refused : {refusal : Refusal} → of_list bytes ends [] ≡ Refused refusal → of_list_alone bytes ends ≡ Refused refusal
-  alone_refused e = refused_first (of_list bytes ends []) (question11 gens ∷ []) e
-
   module _ (checked : Checked bytes ends) where
     pub by_generators : of_list_alone bytes ends ≡ question11 gens
     by_generators = passed_first (of_list bytes ends []) (question11 gens ∷ []) checked ∙ first_no_one (question11 gens)
 
-    pub too_long : first_long 0 gens < length ends → of_list_alone bytes ends ≡ Refused (GeneratorTooLong (first_long 0 gens))
-    too_long h =
-        by_generators
-        ∙ asks_no (leb (length gens) (first_long 0 gens)) (GeneratorTooLong (first_long 0 gens)) (lt-leb (length gens) (first_long 0 gens) (omega (arith, generators_length bytes 0 ends)))
-
-    pub none_too_long : length ends ≤ first_long 0 gens → of_list_alone bytes ends ≡ Passed
-    none_too_long h =
-        by_generators
-        ∙ asks_yes (leb (length gens) (first_long 0 gens)) (GeneratorTooLong (first_long 0 gens)) (le-leb (length gens) (first_long 0 gens) (omega (arith, generators_length bytes 0 ends)))
-
-  module _ (passed : of_list_alone bytes ends ≡ Passed) where
+  module _ (pass : of_list_alone bytes ends ≡ passed) where
     pub alone_checked : Checked bytes ends
-    alone_checked = first_no_head (of_list bytes ends []) (question11 gens ∷ []) passed
+    alone_checked = first_no_head (of_list bytes ends []) (question11 gens ∷ []) pass
 
-    pub alone_short : question11 gens ≡ Passed
-    alone_short = sym (first_no_one (question11 gens)) ∙ first_no_tail (of_list bytes ends []) (question11 gens ∷ []) passed
+    pub alone_short : question11 gens ≡ passed
+    alone_short = sym (first_no_one (question11 gens)) ∙ first_no_tail (of_list bytes ends []) (question11 gens ∷ []) pass
 
 -- ---- and then those of room for what is written
 
@@ -62,19 +47,13 @@ module _ (letters ends before before_ends : List ℕ) where
   abbrev for_ends : List Asked
   for_ends = question14 (length ends) (length before_ends) ∷ []
 
-  pub no_room : length before < length letters → of_room letters ends before before_ends ≡ Refused OutputTooShort
-  no_room h = no_first (leb (length letters) (length before)) OutputTooShort for_ends (lt-leb (length letters) (length before) h)
-
   module _ (fits : length letters ≤ length before) where
     by_ends : of_room letters ends before before_ends ≡ question14 (length ends) (length before_ends)
     by_ends =
         yes_first (leb (length letters) (length before)) OutputTooShort for_ends (le-leb (length letters) (length before) fits)
         ∙ first_no_one (question14 (length ends) (length before_ends))
 
-    pub no_room_for_ends : length before_ends < length ends → of_room letters ends before before_ends ≡ Refused OutputTooShort
-    no_room_for_ends h = by_ends ∙ asks_no (leb (length ends) (length before_ends)) OutputTooShort (lt-leb (length ends) (length before_ends) h)
-
-    pub room_for_both : length ends ≤ length before_ends → of_room letters ends before before_ends ≡ Passed
+    pub room_for_both : length ends ≤ length before_ends → of_room letters ends before before_ends ≡ passed
     room_for_both h = by_ends ∙ asks_yes (leb (length ends) (length before_ends)) OutputTooShort (le-leb (length ends) (length before_ends) h)
 
 module _ (words : List Word) (bytes ends before before_ends : List ℕ) where
@@ -87,23 +66,23 @@ module _ (words : List Word) (bytes ends before before_ends : List ℕ) where
   abbrev asked : Asked
   asked = of_reduced_list words bytes ends (length before) (length before_ends)
 
-  pub asked_refused : {refusal : Refusal} → of_list_alone bytes ends ≡ Refused refusal → asked ≡ Refused refusal
+  pub asked_refused : {refusal : Refusal} → of_list_alone bytes ends ≡ Err refusal → asked ≡ Err refusal
   asked_refused e = first_no_refused alone room e
 
-  pub asked_room : of_list_alone bytes ends ≡ Passed → asked ≡ of_room (normal_bytes words) (normal_ends 0 words) before before_ends
+  pub asked_room : of_list_alone bytes ends ≡ passed → asked ≡ of_room (normal_bytes words) (normal_ends 0 words) before before_ends
   asked_room e =
       first_no_passed alone room e
       ∙ ap₂ (λ (letters count : ℕ). first_no (question14 letters (length before) ∷ question14 count (length before_ends) ∷ [])) (sym (normal_bytes_length words)) (sym (normal_ends_length 0 words))
 
   -- where there is room, the list alone is asked
-  pub asked_alone : (of_list_alone bytes ends ≡ Passed → (total words ≤ length before) × (length words ≤ length before_ends)) → asked ≡ of_list_alone bytes ends
+  pub asked_alone : (of_list_alone bytes ends ≡ passed → (total words ≤ length before) × (length words ≤ length before_ends)) → asked ≡ of_list_alone bytes ends
   asked_alone enough = go (of_list_alone bytes ends) refl
     where
       go : (a : Asked) → of_list_alone bytes ends ≡ a → asked ≡ a
-      go Passed e =
+      go (Ok _) e =
           asked_room e
           ∙ room_for_both (normal_bytes words) (normal_ends 0 words) before before_ends (omega (arith, (enough e).0, normal_bytes_length words)) (omega (arith, (enough e).1, normal_ends_length 0 words))
-      go (Refused refusal) e = asked_refused e
+      go (Err refusal) e = asked_refused e
 
 -- ---- a list is handed over
 
@@ -132,5 +111,5 @@ module _ {Answer : Type 0} (answered : Asked → Answer) where
       subst (λ (q : Asked). HandsOver q answered letters ends before before_ends r after after_ends) (sym e) h
 
 -- what was written stands in front
-pub written_front : {asked : Asked} (new before : List ℕ) {after : List ℕ} → asked ≡ Passed → after ≡ written asked new before → (n : ℕ) → n ≡ length new → take n after ≡ new
+pub written_front : {asked : Asked} (new before : List ℕ) {after : List ℕ} → asked ≡ passed → after ≡ written asked new before → (n : ℕ) → n ≡ length new → take n after ≡ new
 written_front new before e h n l = ap (take n) (h ∙ ap (λ (a : Asked). written a new before) e) ∙ take_overwritten new before n l

@@ -6,16 +6,19 @@ use Prim.Native.Nat.{ℕ, suc, ◌+◌, ◌≤◌, ◌<◌}
 use native.Mathlib.Numerals.{add-one}
 use native.Mathlib.Omega.{arith}
 use lib.Dec.{leb}
-use lib.ListN.{length, take, drop, get_or}
-use lib.Seq.{slice, drop-cons, take_all}
+use lib.ListN.{length, drop, get_or}
+use lib.Seq.{slice, drop-cons}
 use borrow.Author.Tests.{le-leb, lt-leb}
 use Rattle.limits.specs.Limits.{most_of_generator, most_of_list}
 use Rattle.words.specs.Word.{Word, nf}
 use Rattle.words.specs.Bytes.{word}
 use Rattle.refusals.specs.Telling.{pick}
-use Rattle.products.specs.Product.{generators_from, generators}
-use Rattle.products.proofs.Generators.{generators_length}
-use Rattle.lists.specs.Questions.{last_end, first_long}
+use Rattle.products.specs.Product.{generators_from}
+use Rattle.std.specs.Prelude.{Err}
+use Rattle.refusals.specs.Questions.{passed}
+use Rattle.refusals.specs.declared.Refusal.TheVariants.{GeneratorTooLong}
+use Rattle.refusals.proofs.Asking.{asks_yes, asks_no}
+use Rattle.lists.specs.Questions.{last_end, first_long, question11}
 use Rattle.lists.specs.Reducing.{AllLetters, Checked}
 use Rattle.lists.proofs.Rising.{Rising, next, rising_of, rising_last}
 use Rattle.lists.proofs.Passing.{list_passed}
@@ -75,6 +78,9 @@ module _ (sum : ℕ) {all : List Word} (g : Word) (rest : List Word) (splits : a
   pub long_later : len ≤ most_of_generator → sum + len ≤ most_of_list → first_long sum all ≡ suc (first_long (sum + len) rest)
   long_later h k = ap (first_long sum) splits ∙ rw l (simp (le-leb (length (nf g)) most_of_generator (omega arith), le-leb (sum + length (nf g)) most_of_list (omega arith)))
 
--- where no generator is too long, those before the first that is are all of them
-pub all_pass : (bytes ends : List ℕ) (count : ℕ) → length ends ≤ count → take count (generators bytes ends) ≡ generators bytes ends
-all_pass bytes ends count h = take_all count (generators bytes ends) (omega (arith, generators_length bytes 0 ends))
+-- question 11, by that search
+pub question11_no : (gens : List Word) (i : ℕ) → first_long 0 gens ≡ i → i < length gens → question11 gens ≡ Err (GeneratorTooLong i)
+question11_no gens i e h = rw e (asks_no (leb (length gens) i) (GeneratorTooLong i) (lt-leb (length gens) i h))
+
+pub question11_yes : (gens : List Word) → length gens ≤ first_long 0 gens → question11 gens ≡ passed
+question11_yes gens h = asks_yes (leb (length gens) (first_long 0 gens)) (GeneratorTooLong (first_long 0 gens)) (le-leb (length gens) (first_long 0 gens) h)

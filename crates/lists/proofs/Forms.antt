@@ -1,11 +1,11 @@
 -- Normal forms that are written one behind the other, each with its end. Assumes nothing.
 use mathlib.Core.Path.{◌≡◌, refl, sym, ap, ap₂, ◌∙◌}
-use mathlib.Core.List.{List, [], ◌∷◌, ◌++◌, append_assoc, append-nil}
+use mathlib.Core.List.{List, [], ◌∷◌, ◌++◌, append-nil}
 use Prim.Native.Nat.{ℕ, ◌+◌, ◌≤◌, ◌<◌}
 use native.Mathlib.Numerals.{add-one}
 use native.Mathlib.Omega.{arith}
 use lib.ListN.{length, take, drop, get_or, set}
-use lib.Seq.{paste, length-take-le, take_all, take_at, take-suc, take-paste, take-append_seam, drop-append_seam, drop-cons}
+use lib.Seq.{paste, length-take-le, take_all, take-suc, take-paste, take-append_seam, drop-append_seam, drop-cons}
 use Rattle.words.specs.Word.{Word, nf}
 use Rattle.words.specs.Bytes.{bytes}
 use Rattle.slices.specs.Slices.{overwritten}
@@ -38,11 +38,6 @@ forming_behind done rest old_ends sums letters ends =
       letters = letters ∙ ap normal_bytes front;
       ends_is = ends ∙ ap (λ (l : List Word). overwritten (normal_ends 0 l) old_ends) front;
     }
-
--- what is copied behind the letters leaves them as they are
-pub letters_kept : (out new : List ℕ) (sum n : ℕ) {out' : List ℕ} → out' ≡ paste out sum new n → sum ≤ length out → take sum out' ≡ take sum out
-letters_kept out new sum n e h =
-    ap (take sum) (e ∙ append_assoc (take sum out) (take n new) (drop (sum + n) out)) ∙ take_at (take sum out) _ sum (length-take-le sum out h)
 
 module _ (gens : List Word) (old_ends : List ℕ) (all : List Word) (sum i : ℕ) (out out_ends : List ℕ) (f : Forming gens old_ends all sum i out out_ends)
     (g : Word) (rest : List Word) (splits : all ≡ g ∷ rest) (within : i < length gens) where

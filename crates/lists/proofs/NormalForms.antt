@@ -1,5 +1,7 @@
 -- What reducing or inverting a part of a list's letters gives, behind what a slice holds already. Assumes nothing.
-use mathlib.Core.Path.{◌≡◌, sym, ap, ap₂, subst, ◌∙◌}
+use Rattle.std.specs.Prelude.{Result, Ok, IsOk}
+use Rattle.refusals.specs.Questions.{passed, of_word}
+use mathlib.Core.Path.{◌≡◌, refl, sym, ap, ap₂, subst, ◌∙◌}
 use mathlib.Core.List.{List, ◌++◌, append_assoc, append-nil}
 use Prim.Native.Nat.{ℕ, ◌+◌, ◌-◌, ◌*◌, ◌≤◌}
 use native.Mathlib.Omega.{arith}
@@ -9,21 +11,17 @@ use borrow.Rule.Slice.PartMut.{put_mid}
 use Rattle.limits.specs.Limits.{most_letters}
 use Rattle.words.specs.Word.{Word}
 use Rattle.words.specs.Bytes.{word, bytes}
-use Rattle.refusals.specs.Questions.{of_word}
 use Rattle.slices.specs.Slices.{overwritten}
 use Rattle.words.specs.Calls.{Writes}
 use Rattle.words.specs.declared.Letters.{Letters}
 use Rattle.refusals.specs.declared.Refusal.{Refusal}
-use Rattle.refusals.specs.declared.Asked.TheVariants.{Passed}
-use Rattle.words.specs.declared.Written.{Written}
-use Rattle.words.specs.declared.Written.TheVariants.{Length, Refused}
 use Rattle.words.proofs.Answering.{of_word_passes, answers_length, writes_front}
 use Rattle.words.proofs.Bytes.{length_bytes}
 use Rattle.lists.specs.Reducing.{AllLetters}
 use Rattle.lists.proofs.FirstOthers.{all_letters_slice, part_slice}
 
 -- the length that an answer holds
-length_of : {m : ℕ} {l : Letters} → Length l ≡ Length (record { 0 = m }) → l.0 ≡ m
+length_of : {m : ℕ} {l : Letters} → Path (Result Letters Refusal) (Ok l) (Ok (record { 0 = m })) → l.0 ≡ m
 length_of {m} {l} f =
     let same : l ≡ record { 0 = m } = cc in
     ap (λ (k : Letters). k.0) same
@@ -40,7 +38,7 @@ module _ (old new : List ℕ) (at n : ℕ) (within : at ≤ length old) (l : n �
       ∙ sym (append_assoc (take at old) (take n new) (drop (at + n) old))
 
 -- f of the generator that runs from `from` up to `end` is written behind the first `at` entries, which leave the room that is asked for
-module _ (f : Word → Word) (k : ℕ) (list : List ℕ) (from end : ℕ) (out : List ℕ) (at : ℕ) (r : Written) (after : List ℕ)
+module _ (f : Word → Word) (k : ℕ) (list : List ℕ) (from end : ℕ) (out : List ℕ) (at : ℕ) (r : Result Letters Refusal) (after : List ℕ)
     (rises : from ≤ end) (within : end ≤ length list) (letters : AllLetters list) (short : length list ≤ most_letters) (room : at + k * (end - from) ≤ length out)
     (writes : Writes f k (take (end - from) (drop from list)) (take (length out - at) (drop at out)) r after) where
   w : List ℕ
@@ -49,7 +47,7 @@ module _ (f : Word → Word) (k : ℕ) (list : List ℕ) (from end : ℕ) (out :
   behind : List ℕ
   behind = take (length out - at) (drop at out)
 
-  passes : of_word w (k * length w) (length behind) ≡ Passed
+  passes : of_word w (k * length w) (length behind) ≡ passed
   unfolding w behind
   passes =
       let len = length-slice from end list within in
@@ -61,11 +59,11 @@ module _ (f : Word → Word) (k : ℕ) (list : List ℕ) (from end : ℕ) (out :
   unfolding w behind
   slice_writes = subst (λ (l : List ℕ). Writes f k l behind r after) (part_slice list from end rises) writes
 
-  told : r ≡ Length (record { 0 = length (f (word (slice from end list))) })
+  told : r ≡ Ok (record { 0 = length (f (word (slice from end list))) })
   unfolding w
   told = answers_length f k w behind r after slice_writes passes
 
-  pub form_written : {l : Letters} → r ≡ Length l
+  pub form_written : {l : Letters} → r ≡ Ok l
       → (l.0 ≡ length (f (word (slice from end list)))) × (put_mid at (length out - at) out after ≡ paste out at (bytes (f (word (slice from end list)))) l.0)
   unfolding w behind
   form_written {l} e =
@@ -76,8 +74,5 @@ module _ (f : Word → Word) (k : ℕ) (list : List ℕ) (from end : ℕ) (out :
             ∙ front_behind out (bytes form) at l.0 (omega arith) (len ∙ sym (length_bytes form)),
       )
 
-  pub not_refused : (refusal : Refusal) → r ≡ Refused refusal → ⊥
-  not_refused refusal e =
-      let both = sym e ∙ told in
-      let z : ◌≡◌ {A = ℕ} 0 1 = cc in
-      omega arith
+  pub answered : IsOk r
+  answered = rw told refl

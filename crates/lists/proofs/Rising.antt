@@ -1,28 +1,15 @@
--- Ends that never fall. Assumes nothing.
+-- The last of a list's ends, and ends that never fall. Assumes nothing.
 use mathlib.Core.Bool.{Bool, true, false}
 use mathlib.Core.Path.{◌≡◌, refl, ap, ◌∙◌}
 use mathlib.Core.List.{List, [], ◌∷◌}
-use Prim.Native.Nat.{ℕ, zero, suc, ◌+◌, ◌-◌, ◌≤◌, ◌<◌}
+use Prim.Native.Nat.{ℕ, zero, suc, ◌-◌, ◌≤◌, ◌<◌}
 use native.Mathlib.Nat.{not-suc-le-zero, le_of_suc-le-suc}
-use native.Mathlib.Numerals.{add-one}
 use native.Mathlib.Omega.{arith}
 use lib.Dec.{leb}
-use lib.ListN.{length, drop, get_or}
-use lib.Seq.{drop-cons}
-use borrow.Author.Tests.{le-leb, lt-leb, leb-true}
+use lib.ListN.{length, get_or}
+use borrow.Author.Tests.{leb-true}
 use Rattle.refusals.specs.Telling.{pick}
 use Rattle.lists.specs.Questions.{first_fall, last_end}
-
--- ---- the search for the first end that falls
-
-pub fall_later : (ends : List ℕ) (from i : ℕ) → i < length ends → from ≤ get_or ends i 0 → first_fall from (drop i ends) ≡ suc (first_fall (get_or ends i 0) (drop (i + 1) ends))
-fall_later ends from i h k =
-    rw (add-one i)
-    (ap (first_fall from) (drop-cons ends i 0 h) ∙ ap (λ (b : Bool). pick b (suc (first_fall (get_or ends i 0) (drop (suc i) ends))) 0) (le-leb from (get_or ends i 0) k))
-
-pub fall_here : (ends : List ℕ) (from i : ℕ) → i < length ends → get_or ends i 0 < from → first_fall from (drop i ends) ≡ 0
-fall_here ends from i h k =
-    ap (first_fall from) (drop-cons ends i 0 h) ∙ ap (λ (b : Bool). pick b (suc (first_fall (get_or ends i 0) (drop (suc i) ends))) 0) (lt-leb from (get_or ends i 0) k)
 
 pub last_end_lem : (from : ℕ) (ends : List ℕ) → 0 < length ends → last_end from ends ≡ get_or ends (length ends - 1) 0
 last_end_lem from [] h = absurd (omega arith)
@@ -30,10 +17,6 @@ last_end_lem from (end ∷ []) h = refl
 last_end_lem from (end ∷ next ∷ ends) h =
     let place : suc (length (next ∷ ends) - 1) ≡ length (end ∷ next ∷ ends) - 1 = omega arith in
     last_end_lem end (next ∷ ends) (omega arith) ∙ ap (λ (i : ℕ). get_or (end ∷ next ∷ ends) i 0) place
-
-pub last_end_none : (from : ℕ) (ends : List ℕ) → length ends ≡ 0 → last_end from ends ≡ from
-last_end_none from [] e = refl
-last_end_none from (end ∷ ends) e = absurd (omega arith)
 
 -- ---- what it says that no end falls
 

@@ -3,6 +3,7 @@
 --     total_short       all the generators' together have at most 320
 --     signed_short      these and the inverses' together have at most 832, where the generators are at most 64
 -- Assumes nothing.
+use Rattle.refusals.specs.Questions.{passed}
 use mathlib.Core.Bool.{Bool, true, false}
 use mathlib.Core.Path.{◌≡◌, refl}
 use mathlib.Core.List.{List, [], ◌∷◌}
@@ -15,7 +16,6 @@ use borrow.Author.Tests.{leb-true}
 use Rattle.limits.specs.Limits.{most_generators, most_of_generator, most_of_list, most_of_signed_list}
 use Rattle.refusals.specs.Telling.{pick}
 use Rattle.refusals.specs.declared.Refusal.TheVariants.{GeneratorTooLong}
-use Rattle.refusals.specs.declared.Asked.TheVariants.{Passed}
 use Rattle.refusals.proofs.Asking.{asks_passed}
 use Rattle.words.specs.Word.{Word, nf}
 use Rattle.words.proofs.Inverse.{inverse_form_short}
@@ -41,7 +41,7 @@ short_of sum [] h = none
 short_of sum (g ∷ gens) h =
     short_by sum g gens (leb (length (nf g)) most_of_generator) (leb (sum + length (nf g)) most_of_list) refl refl (short_of (sum + length (nf g)) gens) h
 
-passed_short : (gens : List Word) → question11 gens ≡ Passed → Short 0 gens
+passed_short : (gens : List Word) → question11 gens ≡ passed → Short 0 gens
 passed_short gens e = short_of 0 gens (leb-true (length gens) (first_long 0 gens) (asks_passed (leb (length gens) (first_long 0 gens)) (GeneratorTooLong (first_long 0 gens)) e))
 
 each_short : {sum : ℕ} {gens : List Word} → Short sum gens → (i : ℕ) → i < length gens → length (nf (get_or gens i [])) ≤ most_of_generator
@@ -53,10 +53,10 @@ sum_short : {sum : ℕ} {gens : List Word} → Short sum gens → sum ≤ most_o
 sum_short none low = omega arith
 sum_short (next short sum rest) low = omega (arith, sum_short rest sum)
 
-pub form_short : (gens : List Word) → question11 gens ≡ Passed → (i : ℕ) → i < length gens → length (nf (get_or gens i [])) ≤ most_of_generator
+pub form_short : (gens : List Word) → question11 gens ≡ passed → (i : ℕ) → i < length gens → length (nf (get_or gens i [])) ≤ most_of_generator
 form_short gens e i h = each_short (passed_short gens e) i h
 
-pub total_short : (gens : List Word) → question11 gens ≡ Passed → total gens ≤ most_of_list
+pub total_short : (gens : List Word) → question11 gens ≡ passed → total gens ≤ most_of_list
 total_short gens e = omega (arith, sum_short (passed_short gens e) (omega arith))
 
 -- half as many letters again, and half a letter more for each generator
@@ -64,5 +64,5 @@ pub inverses_short : (gens : List Word) → 2 * total (inverses gens) ≤ 3 * to
 inverses_short [] = omega arith
 inverses_short (g ∷ gens) = omega (arith, inverse_form_short g, inverses_short gens)
 
-pub signed_short : (gens : List Word) → length gens ≤ most_generators → question11 gens ≡ Passed → total (with_inverses gens) ≤ most_of_signed_list
+pub signed_short : (gens : List Word) → length gens ≤ most_generators → question11 gens ≡ passed → total (with_inverses gens) ≤ most_of_signed_list
 signed_short gens few e = omega (arith, total_append gens (inverses gens), inverses_short gens, total_short gens e)

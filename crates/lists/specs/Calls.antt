@@ -1,14 +1,12 @@
 -- What reducing a list promises, with the inverses of its generators behind it and without. Assumes nothing: these are definitions.
-use Rattle.std.specs.Prelude.{◌≡◌, List, [], ◌∷◌, ℕ, length}
-use Rattle.refusals.specs.Questions.{first_no, question14}
+use Rattle.std.specs.Prelude.{Result, Ok, Err, ◌≡◌, List, [], ◌∷◌, ℕ, length}
+use Rattle.refusals.specs.Questions.{Asked, first_no, question14}
 use Rattle.words.specs.Word.{Word}
 use Rattle.words.specs.Calls.{written, length_or}
-use Rattle.refusals.specs.declared.Asked.{Asked}
-use Rattle.refusals.specs.declared.Asked.TheVariants.{Passed, Refused}
-use Rattle.words.specs.declared.Written.{Written}
+use Rattle.refusals.specs.declared.Refusal.{Refusal}
+use Rattle.words.specs.declared.Letters.{Letters}
 use Rattle.products.specs.Product.{generators, with_inverses}
-use Rattle.lists.specs.declared.Signed.{Signed}
-use Rattle.lists.specs.declared.Signed.TheVariants.{Lengths, Refused as Signed-as-Refused}
+use Rattle.lists.specs.declared.Lengths.{Lengths}
 use Rattle.lists.specs.Questions.{of_list, question11}
 use Rattle.lists.specs.NormalList.{total, normal_bytes, normal_ends}
 
@@ -32,18 +30,18 @@ ReducesTo words answered bytes ends before before_ends r after after_ends =
     HandsOver (of_reduced_list words bytes ends (length before) (length before_ends)) answered (normal_bytes words) (normal_ends 0 words) before before_ends r after after_ends
 
 -- The normal forms of the generators go into the lent slices; the answer is m.
-abbrev pub ReducesList : (bytes ends before before_ends : List ℕ) (r : Written) (after after_ends : List ℕ) → Type 0
+abbrev pub ReducesList : (bytes ends before before_ends : List ℕ) (r : Result Letters Refusal) (after after_ends : List ℕ) → Type 0
 ReducesList bytes ends before before_ends r after after_ends =
     ReducesTo (generators bytes ends) (λ asked. length_or asked (total (generators bytes ends))) bytes ends before before_ends r after after_ends
 
 -- the lengths of the given generators' forms, and of all forms that are written; or the refusal
-abbrev pub lengths_or : Asked → ℕ → ℕ → Signed
-lengths_or Passed given all = Lengths (record { 0 = given }) (record { 0 = all })
-lengths_or (Refused refusal) given all = Signed-as-Refused refusal
+abbrev pub lengths_or : Asked → ℕ → ℕ → Result Lengths Refusal
+lengths_or (Ok _) given all = Ok (record { given = record { 0 = given }; all = record { 0 = all } })
+lengths_or (Err refusal) given all = Err refusal
 
 -- The normal forms of the generators and of their inverses go into the lent slices; the answer is the length of the first and of all. Question 11 is asked
 -- of the given generators only: the inverse of (SR)^40 has 120 letters.
-abbrev pub ReducesSigned : (bytes ends before before_ends : List ℕ) (r : Signed) (after after_ends : List ℕ) → Type 0
+abbrev pub ReducesSigned : (bytes ends before before_ends : List ℕ) (r : Result Lengths Refusal) (after after_ends : List ℕ) → Type 0
 ReducesSigned bytes ends before before_ends r after after_ends =
     ReducesTo (with_inverses (generators bytes ends)) (λ asked. lengths_or asked (total (generators bytes ends)) (total (with_inverses (generators bytes ends)))) bytes ends before
     before_ends r after after_ends

@@ -3,9 +3,8 @@ use Rattle.std.specs.Prelude.{List, [], ◌∷◌, ◌++◌, ℕ, suc, ◌+◌, 
 use Rattle.limits.specs.Limits.{most_generators, most_of_generator, most_of_list}
 use Rattle.words.specs.Word.{Word, nf}
 use Rattle.refusals.specs.Telling.{pick}
-use Rattle.refusals.specs.Questions.{asks, first_no, question8, question10}
+use Rattle.refusals.specs.Questions.{Asked, asks, first_no, question8, question10}
 use Rattle.refusals.specs.declared.Refusal.TheVariants.{TooManyGenerators, EndsWrong, GeneratorTooLong}
-use Rattle.refusals.specs.declared.Asked.{Asked}
 
 -- 7: "Are there at most 64 generators?"
 abbrev pub question7 : ℕ → Asked

@@ -6,12 +6,10 @@ ghost use Rattle.words.specs.Word.{nf, inverse};
 ghost use Rattle.words.specs.Bytes.{bytes as bytes_of, word};
 ghost use Rattle.lists.specs.Reducing.{AllLetters, SomeReduced, WritesSigned, HandsSigned};
 
-use crate::Signed;
-use crate::reducing::{copy_ends, hand_over};
+use crate::Lengths;
+use crate::reducing::{copy_list, hand_over};
 use limits::{GENERATOR_LETTERS, SIGNED_GENERATORS, SIGNED_ROOM};
-use slices::copying::copy_at;
-use slices::widening::wide;
-use words::{Asked, Letters, Written};
+use words::{Letters, Refusal};
 
 // Writes the normal form of the inverse of the generator that runs from one end up to another to `out` from the place `at` on.
 fn inverse_form(letters: &[u8], from: usize, end: usize, out: &mut [u8], at: usize) -> Letters
@@ -23,10 +21,7 @@ fn inverse_form(letters: &[u8], from: usize, end: usize, out: &mut [u8], at: usi
     ensures result_value { result.0 ≡ length (nf (inverse (word (slice from end letters.now)))) }
     ensures out_after { out.new ≡ paste out.old at (bytes_of (nf (inverse (word (slice from end letters.now))))) result.0 }
 {
-    match words::invert(&letters[from..end], &mut out[at..]) {
-        Written::Length(len) => len,
-        Written::Refused(_) => Letters(0),
-    }
+    words::invert(&letters[from..end], &mut out[at..]).unwrap()
 }
 
 // Writes a reduced list to the fronts of `out` and `out_ends`, and the normal forms of its generators' inverses behind it. The answer is how many letters they all
@@ -37,18 +32,15 @@ fn write_signed(letters: &[u8], ends: &[u16], out: &mut [u8], out_ends: &mut [u1
     requires most_signed_generators_in_bounds { most_signed_generators ≤ length out_ends.old }
     ensures { WritesSigned letters.now ends.now result.0 out.new out_ends.new }
 {
-    copy_at(letters, out, 0);
-    copy_ends(ends, out_ends);
+    copy_list(letters, ends, out, out_ends);
     let mut sum = Letters(letters.len() as u16);
-    let mut from: usize = 0;
-    let mut i = 0;
-    while i < ends.len() {
-        let end = wide(ends[i]);
-        let len = inverse_form(letters, from, end, out, wide(sum.0));
+    let mut from = 0;
+    for (i, end) in ends.iter().enumerate() {
+        let end = usize::from(*end);
+        let len = inverse_form(letters, from, end, out, usize::from(sum.0));
         sum = Letters(sum.0 + len.0);
         out_ends[ends.len() + i] = sum.0;
         from = end;
-        i += 1;
     }
     sum
 }
@@ -62,17 +54,18 @@ pub(crate) fn hand_over_signed(
     ends: &[u16],
     out: &mut [u8],
     out_ends: &mut [u16],
-) -> Signed
+) -> Result<Lengths, Refusal>
     requires { SomeReduced letters.now ends.now }
     ensures { HandsSigned letters.now ends.now out.old out_ends.old result out.new out_ends.new }
 {
-    let mut forms = [0u8; FORMS];
-    let mut form_ends = [0u16; SIGNED_GENERATORS];
+    let mut forms = [0; FORMS];
+    let mut form_ends = [0; SIGNED_GENERATORS];
     let all = write_signed(letters, ends, &mut forms, &mut form_ends);
-    let len = wide(all.0);
+    let len = usize::from(all.0);
     let count = 2 * ends.len();
-    match hand_over(&forms[..len], &form_ends[..count], out, out_ends) {
-        Asked::Refused(refusal) => Signed::Refused(refusal),
-        Asked::Passed => Signed::Lengths(Letters(letters.len() as u16), all),
-    }
+    hand_over(&forms[..len], &form_ends[..count], out, out_ends)?;
+    Ok(Lengths {
+        given: Letters(letters.len() as u16),
+        all,
+    })
 }

@@ -12,82 +12,76 @@ ghost use Rattle.lists.specs.Reducing.{Checked};
 ghost use Rattle.lists.specs.Calls.{ReducesList, ReducesSigned};
 
 use limits::{GENERATORS, LIST_ROOM, WORD_LETTERS};
-use slices::widening::wide;
-use words::{Asked, Letters, Refusal, Written};
+use words::{Letters, Refusal};
 
 // Questions 7, 8, 9 and 10 of a list and a target.
-pub fn of_list(bytes: &[u8], ends: &[u16], target: &[u8]) -> Asked
+pub fn of_list(bytes: &[u8], ends: &[u16], target: &[u8]) -> Result<(), Refusal>
     ensures { result ≡ of_list bytes.now ends.now target.now }
 {
     if GENERATORS < ends.len() {
-        return Asked::Refused(Refusal::TooManyGenerators);
+        return Err(Refusal::TooManyGenerators);
     }
-    if WORD_LETTERS < bytes.len() {
-        return Asked::Refused(Refusal::TooManyLetters);
+    if WORD_LETTERS < bytes.len() || WORD_LETTERS < target.len() {
+        return Err(Refusal::TooManyLetters);
     }
-    if WORD_LETTERS < target.len() {
-        return Asked::Refused(Refusal::TooManyLetters);
-    }
-    match ends::of_ends(ends, bytes) {
-        Asked::Refused(refusal) => Asked::Refused(refusal),
-        Asked::Passed => ends::of_all_letters(bytes, target),
-    }
+    ends::of_ends(ends, bytes)?;
+    ends::of_all_letters(bytes, target)
 }
 
 // Writes the normal forms of the list's generators to the front of `out`, one behind the other, and their ends to the front of
 // `out_ends`. The answer is m, the sum of their lengths.
-pub fn reduce_list(bytes: &[u8], ends: &[u16], out: &mut [u8], out_ends: &mut [u16]) -> Written
+pub fn reduce_list(
+    bytes: &[u8],
+    ends: &[u16],
+    out: &mut [u8],
+    out_ends: &mut [u16],
+) -> Result<Letters, Refusal>
     ensures { ReducesList bytes.now ends.now out.old out_ends.old result out.new out_ends.new }
 {
-    let no_target = [0u8; 0];
-    match of_list(bytes, ends, &no_target) {
-        Asked::Refused(refusal) => Written::Refused(refusal),
-        Asked::Passed => reduce_checked(bytes, ends, out, out_ends),
-    }
+    of_list(bytes, ends, &[])?;
+    reduce_checked(bytes, ends, out, out_ends)
 }
 
 // Room for the letters that question 11 lets pass, and for one generator that it does not.
 const FORMS: usize = LIST_ROOM + WORD_LETTERS;
 
 // The same, of a list that has passed questions 7 to 10. The forms are first written to slices of its own: a refusal changes no lent one.
-fn reduce_checked(bytes: &[u8], ends: &[u16], out: &mut [u8], out_ends: &mut [u16]) -> Written
+fn reduce_checked(
+    bytes: &[u8],
+    ends: &[u16],
+    out: &mut [u8],
+    out_ends: &mut [u16],
+) -> Result<Letters, Refusal>
     requires { Checked bytes.now ends.now }
     ensures { ReducesList bytes.now ends.now out.old out_ends.old result out.new out_ends.new }
 {
-    let mut forms = [0u8; FORMS];
-    let mut form_ends = [0u16; GENERATORS];
-    let reduced = reducing::write_forms(bytes, ends, &mut forms, &mut form_ends);
-    if reduced.count < ends.len() {
-        return Written::Refused(Refusal::GeneratorTooLong(reduced.count));
-    }
-    let sum = reduced.sum;
-    let len = wide(sum.0);
-    match reducing::hand_over(&forms[..len], &form_ends[..ends.len()], out, out_ends) {
-        Asked::Refused(refusal) => Written::Refused(refusal),
-        Asked::Passed => Written::Length(sum),
-    }
+    let mut forms = [0; FORMS];
+    let mut form_ends = [0; GENERATORS];
+    let sum = reducing::write_forms(bytes, ends, &mut forms, &mut form_ends)?;
+    let len = usize::from(sum.0);
+    reducing::hand_over(&forms[..len], &form_ends[..ends.len()], out, out_ends)?;
+    Ok(sum)
 }
 
-// The letters of the given generators' normal forms together, and of these and the inverses'; or the refusal.
-#[derive(Clone, Copy)]
-pub enum Signed {
-    Lengths(Letters, Letters),
-    Refused(Refusal),
+// The letters of the given generators' normal forms together, and of these and the inverses'.
+#[derive(Clone, Copy, Debug, PartialEq, Eq)]
+pub struct Lengths {
+    pub given: Letters,
+    pub all: Letters,
 }
 
 // Writes the normal forms of the list's generators, and behind them those of their inverses, to the front of `out`, and their ends to the front of `out_ends`.
-pub fn reduce_signed(bytes: &[u8], ends: &[u16], out: &mut [u8], out_ends: &mut [u16]) -> Signed
+pub fn reduce_signed(
+    bytes: &[u8],
+    ends: &[u16],
+    out: &mut [u8],
+    out_ends: &mut [u16],
+) -> Result<Lengths, Refusal>
     ensures { ReducesSigned bytes.now ends.now out.old out_ends.old result out.new out_ends.new }
 {
-    let mut letters = [0u8; LIST_ROOM];
-    let mut list_ends = [0u16; GENERATORS];
-    match reduce_list(bytes, ends, &mut letters, &mut list_ends) {
-        Written::Refused(refusal) => Signed::Refused(refusal),
-        Written::Length(given) => inverting::hand_over_signed(
-            &letters[..given.0 as usize],
-            &list_ends[..ends.len()],
-            out,
-            out_ends,
-        ),
-    }
+    let mut letters = [0; LIST_ROOM];
+    let mut list_ends = [0; GENERATORS];
+    let given = reduce_list(bytes, ends, &mut letters, &mut list_ends)?;
+    let len = usize::from(given.0);
+    inverting::hand_over_signed(&letters[..len], &list_ends[..ends.len()], out, out_ends)
 }

@@ -1,7 +1,6 @@
 pub mod Signed
 pub mod Range
 mod Signs
-mod Endings
 mod Parts
 mod Forms
 mod Writing

@@ -1,68 +1,27 @@
 -- The normal form of a matrix, taken off it part by part from the right.
 --     Spelling                what stands from `at` on is what was taken off
---     spelling_begins, spelling_more, spelling_ends, spelling_stops    the loop's start, a turn, and its two ways out
+--     spelling_more, spelling_ends, spelling_stops    the loop's turn, and its two ways out
 -- Assumes nothing.
-use mathlib.Core.Path.{◌≡◌, refl, sym, ap, ap₂, subst, ◌∙◌}
-use mathlib.Core.List.{List, [], ◌∷◌, ◌++◌, map-append, append_assoc, append-nil}
-use Prim.Native.Nat.{ℕ, zero, suc, ◌-◌, ◌^◌, ◌≤◌, ◌<◌}
+use mathlib.Core.Path.{◌≡◌, sym, ap, subst, ◌∙◌}
+use mathlib.Core.List.{List, ◌++◌, map-append, append_assoc}
+use Prim.Native.Nat.{ℕ, ◌^◌, ◌≤◌, ◌<◌}
 use native.Mathlib.Nat.{le_trans}
 use native.Mathlib.Omega.{arith}
 use lib.IntN.{pos}
-use lib.ListN.{length, drop, set, length-append, length-drop, length-set, drop_of_length-le}
-use lib.Seq.{drop-cons, get_or-set_same, drop-set-lt}
+use lib.ListN.{length, drop, length-append, length-drop}
 use Rattle.limits.specs.Limits.{most_of_form}
-use Rattle.words.specs.Word.{S, Word}
+use Rattle.words.specs.Word.{Word}
 use Rattle.words.specs.Bytes.{byte, bytes}
 use Rattle.words.proofs.Bytes.{length_bytes}
-use Rattle.unimodular.specs.Matrix.{Matrix, times, determinant, matrix_of_letter, NormalFormOf}
+use Rattle.unimodular.specs.Matrix.{Matrix, determinant, NormalFormOf}
 use Rattle.unimodular.proofs.Descent.{size, part, before, ending, without_last_part, ending_nothing, determinant_before, size_before}
 use Rattle.matrices.specs.Spelling.{form_room, Spelled}
-
--- ---- one letter, and one part
-
-drop_set : (s : List ℕ) (n b : ℕ) → n < length s → drop n (set s n b) ≡ b ∷ drop (suc n) s
-drop_set s n b h =
-    drop-cons (set s n b) n 0 (omega (arith, length-set s n b))
-    ∙ ap₂ (λ (x : ℕ) (l : List ℕ). x ∷ l) (get_or-set_same s n b 0 h) (drop-set-lt (suc n) s n b (omega arith))
-
-pub prepended : (s : List ℕ) (at b : ℕ) → 0 < at → at ≤ length s → drop (at - 1) (set s (at - 1) b) ≡ b ∷ drop at s
-prepended s at b h k =
-    let next : suc (at - 1) ≡ at = omega arith in
-    drop_set s (at - 1) b (omega arith) ∙ ap (λ (n : ℕ). b ∷ drop n s) next
-
--- an ending above 0 that is not 1 or 2 stands for SS
-pub part_ss : (k : ℕ) → 0 < k → (k ≡ 1 → ⊥) → (k ≡ 2 → ⊥) → part k ≡ S ∷ S ∷ []
-part_ss zero n r s = absurd (omega arith)
-part_ss (suc zero) n r s = absurd (r refl)
-part_ss (suc (suc zero)) n r s = absurd (s refl)
-part_ss (suc (suc (suc k))) n r s = refl
-
-pub before_ss : (k : ℕ) (m : Matrix) → 0 < k → (k ≡ 1 → ⊥) → (k ≡ 2 → ⊥) → before k m ≡ times m (matrix_of_letter S)
-before_ss zero m n r s = absurd (omega arith)
-before_ss (suc zero) m n r s = absurd (r refl)
-before_ss (suc (suc zero)) m n r s = absurd (s refl)
-before_ss (suc (suc (suc k))) m n r s = refl
-
-pub part_not_empty : (k : ℕ) → 0 < k → 0 < length (part k)
-part_not_empty zero n = absurd (omega arith)
-part_not_empty (suc zero) n = omega arith
-part_not_empty (suc (suc zero)) n = omega arith
-part_not_empty (suc (suc (suc k))) n = omega arith
-
--- ---- part by part
 
 -- `left` is what is left of m. Where m's normal form is w, what stands from `at` on is the end of w, and before it comes the normal form of `left`.
 pub record Spelling (m left : Matrix) (form : List ℕ) (at : ℕ) : Type 0 where
   pub one : determinant left ≡ pos 1
   pub not_large : size left ≤ 2 ^ 43
   pub so_far : (w : Word) → NormalFormOf m w → (v : Word) × NormalFormOf left v × (bytes w ≡ bytes v ++ drop at form)
-
-pub spelling_begins : (m : Matrix) (form : List ℕ) (at : ℕ) → determinant m ≡ pos 1 → size m ≤ 2 ^ 43 → length form ≤ at → Spelling m m form at
-spelling_begins m form at e l h = record {
-  one = e;
-  not_large = l;
-  so_far = λ w p. (w, p, sym (ap (λ (s : List ℕ). bytes w ++ s) (drop_of_length-le form h) ∙ append-nil (bytes w)));
-}
 
 module _ {m left : Matrix} {form : List ℕ} {at : ℕ} (h : Spelling m left form at) where
   pub spelling_more : {k : ℕ} {left' : Matrix} (form' : List ℕ) (at' : ℕ) → k ≡ ending left → left' ≡ before k left →

@@ -5,10 +5,8 @@ use Prim.Native.Nat.{ℕ}
 use lib.ListN.{length}
 use Rattle.words.specs.Word.{nf}
 use Rattle.words.specs.Bytes.{word}
-use Rattle.refusals.specs.Questions.{first_no, question8, question10, question12, of_letters}
-use Rattle.refusals.specs.declared.Refusal.{Refusal}
-use Rattle.refusals.specs.declared.Asked.TheVariants.{Passed, Refused}
-use Rattle.refusals.proofs.Asking.{first_no_passed, first_no_refused}
+use Rattle.refusals.specs.Questions.{passed, first_no, question8, question10, question12, of_letters}
+use Rattle.refusals.proofs.Asking.{first_no_passed}
 use Rattle.unimodular.specs.Matrix.{Matrix, matrix_of, signed}
 use Rattle.unimodular.proofs.Product.{determinant_word}
 use Rattle.unimodular.proofs.Faithful.{normal_form_of_word}
@@ -17,16 +15,11 @@ use Rattle.matrices.specs.Forming.{of_form}
 use Rattle.matrices.proofs.Signs.{signed_sign}
 
 module _ (w : List ℕ) where
-  pub letters_refused : {refusal : Refusal} → of_letters w ≡ Refused refusal → of_turned_word w ≡ Refused refusal
-  letters_refused e =
-      first_no_refused (question8 (length w) ∷ question10 w ∷ [])
-      (question12 (length (nf (word w))) ∷ question16 (signed (matrix_of (word w))) ∷ []) e
-
   pub signed_nf : signed (matrix_of (nf (word w))) ≡ signed (matrix_of (word w))
   signed_nf = signed_sign (determinant_word (word w)) (normal_form_of_word (word w)).matrix
 
   -- the word and its normal form have the same matrix
-  pub letters_passed : of_letters w ≡ Passed → of_turned_word w ≡ of_form (nf (word w))
+  pub letters_passed : of_letters w ≡ passed → of_turned_word w ≡ of_form (nf (word w))
   letters_passed e =
       first_no_passed (question8 (length w) ∷ question10 w ∷ [])
       (question12 (length (nf (word w))) ∷ question16 (signed (matrix_of (word w))) ∷ []) e

@@ -1,36 +1,16 @@
 -- The sign that is returned.
---     first_positive_lem, ..     which sign it is, by the comparisons
 --     signed_sign            matrices that agree up to sign have the same, where the first row is not 0
 --     sign_of_signed         it is one of the two
 -- Assumes nothing.
 use mathlib.Core.Path.{◌≡◌, refl, sym, ap, ◌∙◌}
 use mathlib.Core.Logic.{inl, inr}
-use mathlib.Core.Bool.{Bool, true, false, not, true≢false, false≢true}
+use mathlib.Core.Bool.{Bool, true, false, not}
 use Prim.Native.Nat.{zero, suc}
 use lib.IntN.{ℤ, pos, negsuc, neg_ℤ, nat_abs}
 use Rattle.refusals.specs.Telling.{pick}
 use Rattle.unimodular.specs.Matrix.{Matrix, negated, determinant, UpToSign, first_positive, signed}
 use Rattle.unimodular.proofs.Product.{negated_negated}
-use Rattle.unimodular.proofs.Rows.{negative, positive}
 use Rattle.unimodular.proofs.Determinant.{no_first_row}
-
--- ---- by the comparisons
-
-pub first_positive_lem : (x y : ℤ) → positive x ≡ true → first_positive x y ≡ true
-first_positive_lem (pos zero) y e = absurd (false≢true e)
-first_positive_lem (pos (suc n)) y e = refl
-first_positive_lem (negsuc n) y e = absurd (false≢true e)
-
-pub first_negative : (x y : ℤ) → negative x ≡ true → first_positive x y ≡ false
-first_negative (pos n) y e = absurd (false≢true e)
-first_negative (negsuc n) y e = refl
-
-pub first_zero : (x y : ℤ) → positive x ≡ false → negative x ≡ false → first_positive x y ≡ positive y
-first_zero (pos zero) (pos zero) e f = refl
-first_zero (pos zero) (pos (suc n)) e f = refl
-first_zero (pos zero) (negsuc n) e f = refl
-first_zero (pos (suc n)) y e f = absurd (true≢false e)
-first_zero (negsuc n) y e f = absurd (true≢false f)
 
 module _ (m : Matrix) where
   pub signed_as_is : first_positive m.a m.b ≡ true → signed m ≡ m

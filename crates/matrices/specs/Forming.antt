@@ -2,8 +2,7 @@
 use Rattle.std.specs.Prelude.{[], ◌∷◌, length}
 use Rattle.unimodular.specs.Matrix.{signed, matrix_of}
 use Rattle.words.specs.Word.{Word}
-use Rattle.refusals.specs.Questions.{first_no, question12}
-use Rattle.refusals.specs.declared.Asked.{Asked}
+use Rattle.refusals.specs.Questions.{Asked, first_no, question12}
 use Rattle.matrices.specs.Questions.{question16}
 
 -- what is asked of a normal form that is to be turned into its matrix

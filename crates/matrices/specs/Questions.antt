@@ -5,9 +5,8 @@ use Rattle.unimodular.specs.Matrix.{Matrix, determinant, signed, matrix_of}
 use Rattle.words.specs.Word.{Word, nf}
 use Rattle.refusals.specs.Telling.{pick}
 use Rattle.words.specs.Bytes.{word}
-use Rattle.refusals.specs.Questions.{asks, first_no, question8, question10, question12, question14}
+use Rattle.refusals.specs.Questions.{Asked, asks, first_no, question8, question10, question12, question14}
 use Rattle.refusals.specs.declared.Refusal.TheVariants.{EntryTooLarge, DeterminantNotOne, MatrixTooLarge}
-use Rattle.refusals.specs.declared.Asked.{Asked}
 
 abbrev pub largest_entry : ℕ
 largest_entry = 2147483647

@@ -1,5 +1,5 @@
 // A normal form turned into its matrix.
-ghost use Rattle.std.specs.Prelude.{◌≡◌, ◌≤◌, ◌<◌, ◌^◌, length, get_or};
+ghost use Rattle.std.specs.Prelude.{◌≡◌, ◌≤◌, ◌^◌, length};
 ghost use Rattle.limits.specs.Limits.{most_of_form};
 ghost use Rattle.words.specs.Word.{Normal};
 ghost use Rattle.words.specs.Bytes.{letter, word as word_of};
@@ -9,24 +9,16 @@ ghost use Rattle.matrices.specs.Entries.{matrix};
 ghost use Rattle.matrices.specs.Calls.{matrix_or};
 ghost use Rattle.matrices.specs.Forming.{of_form};
 
-use crate::{Matrix, Turned, questions, sign};
+use crate::{Matrix, questions, sign};
 use limits::FORM_ROOM;
-use words::{Asked, Refusal};
-
-// The letter with index i, from the left.
-fn letter_at(form: &[u8], i: usize) -> u8
-    requires { i < length form.now }
-    ensures { result ≡ get_or form.now i 0 }
-{
-    form[i]
-}
+use words::Refusal;
 
 // A matrix multiplied on the right by a letter's matrix.
 fn times_letter(m: Matrix, byte: u8) -> Matrix
     requires { size (matrix m) ≤ 2 ^ 44 }
     ensures { matrix result ≡ times (matrix m) (matrix_of_letter (letter byte)) }
 {
-    if byte == 82 {
+    if byte == b'R' {
         return m.times_r();
     }
     m.times_s()
@@ -45,25 +37,23 @@ fn product(form: &[u8]) -> Matrix
         c: 0,
         d: 1,
     };
-    let mut i = 0;
-    while i < form.len() {
-        m = times_letter(m, letter_at(form, i));
-        i += 1;
+    for byte in form {
+        m = times_letter(m, *byte);
     }
     m
 }
 
 // Questions 12 and 16, and then the matrix.
-pub(crate) fn of_normal_form(form: &[u8]) -> Turned
+pub(crate) fn of_normal_form(form: &[u8]) -> Result<Matrix, Refusal>
     requires { Normal (word_of form.now) }
     ensures { result ≡ matrix_or (of_form (word_of form.now)) (signed (matrix_of (word_of form.now))) }
 {
     if FORM_ROOM < form.len() {
-        return Turned::Refused(Refusal::NormalFormTooLong);
+        return Err(Refusal::NormalFormTooLong);
     }
     let m = sign::with_sign(product(form));
-    match questions::of_range(m) {
-        Asked::Refused(_) => Turned::Refused(Refusal::MatrixTooLarge),
-        Asked::Passed => Turned::Into(m),
+    if questions::of_range(m).is_err() {
+        return Err(Refusal::MatrixTooLarge);
     }
+    Ok(m)
 }

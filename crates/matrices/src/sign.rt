@@ -23,15 +23,7 @@ pub(crate) fn with_sign(m: Matrix) -> Matrix
     requires { size (matrix m) ≤ 2 ^ 44 }
     ensures { matrix result ≡ signed (matrix m) }
 {
-    let a = m.a;
-    let b = m.b;
-    if 0 < a {
-        return m;
-    }
-    if a < 0 {
-        return negated(m);
-    }
-    if 0 < b {
+    if 0 < m.a || (m.a == 0 && 0 < m.b) {
         return m;
     }
     negated(m)

@@ -4,9 +4,10 @@ ghost use Rattle.words.specs.Bytes.{bytes};
 ghost use Rattle.unimodular.specs.Matrix.{determinant};
 ghost use Rattle.unimodular.proofs.Descent.{size, part, before as before_part};
 ghost use Rattle.matrices.specs.Entries.{matrix};
-ghost use Rattle.matrices.specs.Spelling.{form_room, Spelled};
+ghost use Rattle.matrices.specs.Spelling.{form_room, number, Spelled};
 
 use crate::{Matrix, ending};
+use words::Ending;
 
 // A letter goes before what stands from `at` on.
 fn prepend(form: &mut [u8], at: usize, byte: u8) -> usize
@@ -18,31 +19,31 @@ fn prepend(form: &mut [u8], at: usize, byte: u8) -> usize
 }
 
 // The part that an ending stands for goes before what stands from `at` on.
-fn prepend_part(form: &mut [u8], at: usize, ending: u8) -> usize
-    requires ending_nonzero { 0 < ending }
-    requires lt_at { (1 < at) × (at ≤ length form.old) }
-    ensures { (result + length (part ending) ≡ at) × (drop result form.new ≡ bytes (part ending) ++ drop at form.old) }
+fn prepend_part(form: &mut [u8], at: usize, ending: Ending) -> usize
+    requires { (1 < at) × (at ≤ length form.old) }
+    ensures { (result + length (part (number ending)) ≡ at) × (drop result form.new ≡ bytes (part (number ending)) ++ drop at form.old) }
 {
     match ending {
-        1 => prepend(form, at, 82),
-        2 => prepend(form, at, 83),
-        _ => {
-            let once = prepend(form, at, 83);
-            prepend(form, once, 83)
+        Ending::Nothing => at,
+        Ending::R => prepend(form, at, b'R'),
+        Ending::S => prepend(form, at, b'S'),
+        Ending::SS => {
+            let once = prepend(form, at, b'S');
+            prepend(form, once, b'S')
         }
     }
 }
 
 // The matrix without its last part, up to sign: R is its own inverse, and S and SS are each other's.
-fn without_last_part(m: Matrix, ending: u8) -> Matrix
-    requires ending_nonzero { 0 < ending }
-    requires m_bound { size (matrix m) ≤ 2 ^ 43 }
-    ensures { matrix result ≡ before_part ending (matrix m) }
+fn without_last_part(m: Matrix, ending: Ending) -> Matrix
+    requires { size (matrix m) ≤ 2 ^ 43 }
+    ensures { matrix result ≡ before_part (number ending) (matrix m) }
 {
     match ending {
-        1 => m.times_r(),
-        2 => m.times_s().times_s(),
-        _ => m.times_s(),
+        Ending::Nothing => m,
+        Ending::R => m.times_r(),
+        Ending::S => m.times_s().times_s(),
+        Ending::SS => m.times_s(),
     }
 }
 
@@ -57,7 +58,7 @@ pub(crate) fn spell(m: Matrix, form: &mut [u8]) -> usize
     let mut at = form.len();
     while 1 < at {
         let last = ending::ending(left);
-        if last == 0 {
+        if last == Ending::Nothing {
             return at;
         }
         at = prepend_part(form, at, last);

@@ -8,10 +8,10 @@ ghost use Rattle.std.specs.Prelude.{IfOk};
 ghost use Rattle.matrices.specs.Entries.{matrix};
 ghost use Rattle.matrices.specs.Calls.{TurnsMatrix};
 
-use matrices::{Matrix, Turned};
+use matrices::Matrix;
 use std::io;
 use std::io::Write;
-use words::Written;
+use words::{Letters, Refusal};
 
 fn word(output: &mut impl Write, letters: &[u8]) -> io::Result<()> {
     output.write_all(letters)?;
@@ -21,20 +21,20 @@ fn word(output: &mut impl Write, letters: &[u8]) -> io::Result<()> {
 
 fn answer(output: &mut impl Write, letters: &[u8]) -> io::Result<()> {
     match matrices::word_to_matrix(letters) {
-        Turned::Into(m) => printing::matrix(output, m)?,
-        Turned::Refused(refusal) => showing::refusal(output, refusal)?,
+        Ok(m) => printing::matrix(output, m)?,
+        Err(refusal) => write!(output, "{refusal}")?,
     }
     writeln!(output)
 }
 
-fn written(output: &mut impl Write, answer: Written) -> io::Result<()> {
+fn written(output: &mut impl Write, answer: Result<Letters, Refusal>) -> io::Result<()> {
     match answer {
-        Written::Length(letters) => write!(output, "{}", letters.0),
-        Written::Refused(refusal) => showing::refusal(output, refusal),
+        Ok(letters) => write!(output, "{}", letters.0),
+        Err(refusal) => write!(output, "{refusal}"),
     }
 }
 
-fn into(output: &mut impl Write, m: Matrix, out: &mut [u8]) -> io::Result<Written>
+fn into(output: &mut impl Write, m: Matrix, out: &mut [u8]) -> io::Result<Result<Letters, Refusal>>
     ensures { IfOk result (λ answer. TurnsMatrix (matrix m) out.old answer out.new) }
 {
     let answer = matrices::matrix_to_word(m, out);
@@ -49,19 +49,19 @@ fn into(output: &mut impl Write, m: Matrix, out: &mut [u8]) -> io::Result<Writte
 
 fn matrix(output: &mut impl Write, a: i64, b: i64, c: i64, d: i64) -> io::Result<()> {
     let mut out = [46u8; 82];
-    into(output, Matrix { a, b, c, d }, &mut out)?;
+    let _ = into(output, Matrix { a, b, c, d }, &mut out)?;
     Ok(())
 }
 
 fn in_80_bytes(output: &mut impl Write, a: i64, b: i64, c: i64, d: i64) -> io::Result<()> {
     let mut out = [46u8; 80];
-    into(output, Matrix { a, b, c, d }, &mut out)?;
+    let _ = into(output, Matrix { a, b, c, d }, &mut out)?;
     Ok(())
 }
 
 fn in_79_bytes(output: &mut impl Write, a: i64, b: i64, c: i64, d: i64) -> io::Result<()> {
     let mut out = [46u8; 79];
-    into(output, Matrix { a, b, c, d }, &mut out)?;
+    let _ = into(output, Matrix { a, b, c, d }, &mut out)?;
     Ok(())
 }
 
@@ -108,10 +108,10 @@ fn long_words(output: &mut impl Write) -> io::Result<()> {
 // 4,096 letters that cancel, and one more
 fn cancelling_words(output: &mut impl Write) -> io::Result<()> {
     write!(output, "R 4096 times: ")?;
-    let even = [82u8; 4096];
+    let even = [b'R'; 4096];
     answer(output, &even)?;
     write!(output, "R 4097 times: ")?;
-    let more = [82u8; 4097];
+    let more = [b'R'; 4097];
     answer(output, &more)
 }
 

@@ -5,7 +5,6 @@
 --     vanishing_relation                       a generator that vanishes is a relation of one factor
 --     signed_relation                          a generator and its inverse are a relation of two signed factors
 -- Assumes, where factors are signed, at most 128 generators.
-use mathlib.Core.Path.{◌≡◌}
 use mathlib.Core.List.{List, [], ◌∷◌, append-nil}
 use Prim.Native.Nat.{ℕ, ◌+◌, ◌≤◌}
 use native.Mathlib.Omega.{arith}

@@ -1,3 +1,4 @@
 pub mod ReducedList
 mod ByQuestions
 pub mod PosedReady
+pub mod InRoom

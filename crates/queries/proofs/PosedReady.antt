@@ -5,7 +5,9 @@ use Prim.Native.Nat.{ℕ, ◌≤◌}
 use native.Mathlib.Omega.{arith}
 use lib.ListN.{length, take, drop, length-append, length-map}
 use lib.Seq.{length-take-le}
-use Rattle.limits.specs.Limits.{most_letters, most_generators, most_of_list}
+use Rattle.refusals.specs.Questions.{Asked, passed}
+use Rattle.std.specs.Prelude.{Result, Err, Ok}
+use Rattle.limits.specs.Limits.{most_letters, most_generators}
 use Rattle.words.specs.Word.{Word, Normal, nf}
 use Rattle.words.specs.Bytes.{letter, word, bytes as bytes_of}
 use Rattle.words.specs.declared.Letters.{Letters}
@@ -13,8 +15,6 @@ use Rattle.words.proofs.Answering.{take_overwritten}
 use Rattle.words.proofs.Bytes.{word_bytes, length_bytes}
 use Rattle.words.proofs.NormalForm.{nf_normal, nf_length}
 use Rattle.refusals.specs.declared.Refusal.{Refusal}
-use Rattle.refusals.specs.declared.Asked.{Asked}
-use Rattle.refusals.specs.declared.Asked.TheVariants.{Passed, Refused}
 use Rattle.refusals.proofs.Asking.{first_no_head, first_no_tail, first_no_one}
 use Rattle.products.specs.Product.{generators}
 use Rattle.products.specs.State.{AllNormal}
@@ -25,10 +25,9 @@ use Rattle.lists.proofs.NormalList.{normal_bytes_length, normal_ends_length, nor
 use Rattle.lists.proofs.Passing.{ListPassed, list_passed}
 use Rattle.trees.specs.Tree.{Tree}
 use Rattle.trees.specs.Numbering.{numbered}
-use Rattle.queries.specs.Posing.{Lent, HasRoom, ReducedList, PosesReduced, ByQuestions, of_query, Poses}
+use Rattle.queries.specs.Posing.{ready, Lent, ReducedList, PosesReduced, ByQuestions, of_query}
 use Rattle.queries.specs.Ready.{ReadyFor}
 use Rattle.queries.specs.declared.Posed.{Posed}
-use Rattle.queries.specs.declared.Posed.TheVariants.{Ready, Refused as Posed-as-Refused}
 use Rattle.queries.proofs.ReducedList.{reduced_list}
 
 -- m and t are the letters of a reduced list and of the target's form, which stands in front of its slice; and the slices are ready for a search.
@@ -44,7 +43,7 @@ pub record FormsReady (words : List Word) (generators : ℕ) (target : List ℕ)
 
 module _ (words : List Word) (generators : ℕ) (numbers : length words ≡ generators) (target : List ℕ) (m t : Letters) (count : ℕ) (before after : Lent)
     (list_reduced : ReducedList (normal_bytes words) (normal_ends 0 words)) (short : length target ≤ most_letters)
-    (poses : PosesReduced (normal_bytes words) (normal_ends 0 words) target (Ready m t count) before after) where
+    (poses : PosesReduced (normal_bytes words) (normal_ends 0 words) target (ready m t count) before after) where
   abbrev target_form : Word
   target_form = nf (word target)
 
@@ -111,12 +110,12 @@ module _ (words : List Word) (generators : ℕ) (numbers : length words ≡ gene
 
 -- All has passed, and the list and the target as they are given are ready.
 pub record PosedReady (bytes ends target : List ℕ) (m t : Letters) (count : ℕ) (after : Lent) : Type 0 where
-  pub passed : of_query bytes ends target ≡ Passed
+  pub passed : of_query bytes ends target ≡ passed
   pub few : length ends ≤ most_generators
   pub forms : FormsReady (generators bytes ends) (length ends) target m t count after
 
-module _ (bytes ends target : List ℕ) (m t : Letters) (count : ℕ) (before after : Lent) (passed : of_query bytes ends target ≡ Passed)
-    (poses : PosesReduced (normal_bytes (generators bytes ends)) (normal_ends 0 (generators bytes ends)) target (Ready m t count) before after) where
+module _ (bytes ends target : List ℕ) (m t : Letters) (count : ℕ) (before after : Lent) (passed : of_query bytes ends target ≡ passed)
+    (poses : PosesReduced (normal_bytes (generators bytes ends)) (normal_ends 0 (generators bytes ends)) target (ready m t count) before after) where
   abbrev gens : List Word
   gens = generators bytes ends
 
@@ -136,23 +135,24 @@ module _ (bytes ends target : List ℕ) (m t : Letters) (count : ℕ) (before af
         forms = forms_ready gens (length ends) (generators_length bytes 0 ends) target m t count before after list_reduced list_and_target.target_short poses;
       }
 
-module _ {bytes ends target : List ℕ} {before after : Lent} where
-  pub posed_refused : {r : Posed} {refusal : Refusal} → Poses bytes ends target r before after → HasRoom most_of_list most_generators before → r ≡ Posed-as-Refused refusal
-      → (of_query bytes ends target ≡ Refused refusal) × (after ≡ before)
-  posed_refused {r} {refusal} poses room e =
-      by (of_query bytes ends target) (subst (λ (a : Posed). ByQuestions (of_query bytes ends target) bytes ends target a before after) e (poses.posed room))
+-- What is said by the questions: a refusal is theirs, and leaves what was lent; else all is ready.
+module _ (bytes ends target : List ℕ) (before after : Lent) where
+  pub posed_refused : {r : Result Posed Refusal} {refusal : Refusal} → ByQuestions (of_query bytes ends target) bytes ends target r before after → r ≡ Err refusal
+      → (of_query bytes ends target ≡ Err refusal) × (after ≡ before)
+  posed_refused {r} {refusal} poses e =
+      by (of_query bytes ends target) (subst (λ (a : Result Posed Refusal). ByQuestions (of_query bytes ends target) bytes ends target a before after) e poses)
     where
-      by : (asked : Asked) → ByQuestions asked bytes ends target (Posed-as-Refused refusal) before after → (asked ≡ Refused refusal) × (after ≡ before)
-      by (Refused other) (same, kept) = (cc, kept)
-      by Passed reduced = absurd reduced.tree
+      by : (asked : Asked) → ByQuestions asked bytes ends target (Err refusal) before after → (asked ≡ Err refusal) × (after ≡ before)
+      by (Err other) (same, kept) = (cc, kept)
+      by (Ok _) reduced = absurd reduced.tree
 
-  pub posed_passed : {r : Posed} {m t : Letters} {count : ℕ} → Poses bytes ends target r before after → HasRoom most_of_list most_generators before → r ≡ Ready m t count
-      → PosedReady bytes ends target m t count after
-  posed_passed {r} {m} {t} {count} poses room e =
+  pub posed_passed : {r : Result Posed Refusal} {posed : Posed} → ByQuestions (of_query bytes ends target) bytes ends target r before after → r ≡ Ok posed
+      → PosedReady bytes ends target posed.m posed.t posed.count after
+  posed_passed {r} {posed} poses e =
       by (of_query bytes ends target) refl
-      (subst (λ (a : Posed). ByQuestions (of_query bytes ends target) bytes ends target a before after) e (poses.posed room))
+      (subst (λ (a : Result Posed Refusal). ByQuestions (of_query bytes ends target) bytes ends target a before after) e poses)
     where
-      by : (asked : Asked) → of_query bytes ends target ≡ asked → ByQuestions asked bytes ends target (Ready m t count) before after
-          → PosedReady bytes ends target m t count after
-      by (Refused other) q (same, kept) = let z : ◌≡◌ {A = ℕ} 0 1 = cc in absurd (omega arith)
-      by Passed q reduced = reduced_ready bytes ends target m t count before after q reduced
+      by : (asked : Asked) → of_query bytes ends target ≡ asked → ByQuestions asked bytes ends target (Ok posed) before after
+          → PosedReady bytes ends target posed.m posed.t posed.count after
+      by (Err other) q (same, kept) = let z : ◌≡◌ {A = ℕ} 0 1 = cc in absurd (omega arith)
+      by (Ok _) q reduced = reduced_ready bytes ends target posed.m posed.t posed.count before after q reduced

@@ -4,9 +4,9 @@ use mathlib.Core.List.{List, map}
 use Prim.Native.Nat.{ℕ, ◌≤◌}
 use native.Mathlib.Omega.{arith}
 use lib.ListN.{length}
+use Rattle.refusals.specs.Questions.{passed}
 use Rattle.limits.specs.Limits.{most_generators, most_of_list, most_signed_generators, most_of_signed_list}
 use Rattle.words.specs.Word.{Word, nf}
-use Rattle.refusals.specs.declared.Asked.TheVariants.{Passed}
 use Rattle.words.proofs.Reduced.{normal_of_reduced}
 use Rattle.products.specs.Product.{generator}
 use Rattle.products.specs.State.{AllNormal}
@@ -31,7 +31,7 @@ forms_reduced words few short =
     }
 
 -- and so are those of generators that pass question 11
-pub reduced_list : (gens : List Word) → length gens ≤ most_generators → question11 gens ≡ Passed → ReducedList (normal_bytes gens) (normal_ends 0 gens)
+pub reduced_list : (gens : List Word) → length gens ≤ most_generators → question11 gens ≡ passed → ReducedList (normal_bytes gens) (normal_ends 0 gens)
 reduced_list gens few e = forms_reduced gens (omega arith) (omega (arith, total_short gens e))
 
 -- where there is room for the states of a reduced list, it fits with just as many nodes for its generators as it has

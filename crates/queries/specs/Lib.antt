@@ -1,2 +1,3 @@
 pub mod Posing
 pub mod Ready
+pub mod Arrays

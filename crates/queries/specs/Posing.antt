@@ -1,13 +1,13 @@
 -- What making a list and a target ready for a search promises. Assumes nothing: these are definitions.
-use Rattle.std.specs.Prelude.{◌≡◌, List, [], ◌∷◌, ℕ, ◌≤◌, ◌<◌, length, take, drop}
+use Rattle.std.specs.Prelude.{Result, Ok, Err, ◌≡◌, List, [], ◌∷◌, ℕ, ◌≤◌, ◌<◌, length, take, drop}
 use Rattle.limits.specs.Limits.{most_letters, most_generators, most_of_list, most_signed_generators, most_of_signed_list}
 use Rattle.slices.specs.Slices.{overwritten}
 use Rattle.words.specs.Word.{nf}
 use Rattle.words.specs.Bytes.{word, bytes}
-use Rattle.refusals.specs.Questions.{first_no, of_letters}
+use Rattle.words.specs.declared.Letters.{Letters}
+use Rattle.refusals.specs.Questions.{Asked, passed, first_no, of_letters}
 use Rattle.refusals.specs.declared.Refusal.TheVariants.{OutputTooShort}
-use Rattle.refusals.specs.declared.Asked.{Asked}
-use Rattle.refusals.specs.declared.Asked.TheVariants.{Passed, Refused}
+use Rattle.refusals.specs.declared.Refusal.{Refusal}
 use Rattle.products.specs.Product.{generators}
 use Rattle.products.specs.State.{AllNormal}
 use Rattle.lists.specs.Questions.{of_list, question11}
@@ -15,7 +15,6 @@ use Rattle.lists.specs.NormalList.{normal_bytes, normal_ends}
 use Rattle.trees.specs.Tree.{at}
 use Rattle.trees.specs.Building.{Slices, BuildsTree}
 use Rattle.queries.specs.declared.Posed.{Posed}
-use Rattle.queries.specs.declared.Posed.TheVariants.{Ready, Refused as Posed-as-Refused}
 
 -- What is lent: a slice for the target's form, and the slices of a tree.
 pub record Lent : Type 0 where
@@ -58,29 +57,34 @@ pub record TreeStands (letters ends : List ℕ) (count : ℕ) (before after : Sl
   pub built : BuildsTree letters ends (with_wholes (length ends) before) (with_wholes (length ends) after) count
   pub wholes_kept : drop (length ends) after.wholes ≡ drop (length ends) before.wholes
 
+-- the answer for what is ready
+abbrev pub ready : Letters → Letters → ℕ → Result Posed Refusal
+ready m t count = Ok (record { m = m; t = t; count = count })
+
 -- the tree stands, and the answer tells the sizes
-abbrev pub Plants : List ℕ → List ℕ → ℕ → Posed → Slices → Slices → Type 0
-Plants letters ends form (Ready m t count) before after = (m.0 ≡ length letters) × (t.0 ≡ form) × TreeStands letters ends count before after
-Plants letters ends form (Posed-as-Refused refusal) before after = ⊥
+abbrev pub Plants : List ℕ → List ℕ → ℕ → Result Posed Refusal → Slices → Slices → Type 0
+Plants letters ends form (Ok posed) before after =
+    (posed.m.0 ≡ length letters) × (posed.t.0 ≡ form) × TreeStands letters ends posed.count before after
+Plants letters ends form (Err refusal) before after = ⊥
 
 -- The tree of a reduced list, and the normal form of the target in front of its slice.
-pub record PosesReduced (letters ends target : List ℕ) (r : Posed) (before after : Lent) : Type 0 where
+pub record PosesReduced (letters ends target : List ℕ) (r : Result Posed Refusal) (before after : Lent) : Type 0 where
   pub form : after.form ≡ overwritten (bytes (nf (word target))) before.form
   pub tree : Plants letters ends (length (nf (word target))) r before.tree after.tree
 
 -- A reduced list and a target that has passed questions 8 and 10 are posed where there is room for them; where there is none nothing changes.
-pub record PosesForms (letters ends target : List ℕ) (r : Posed) (before after : Lent) : Type 0 where
-  pub posed : HasRoom (length letters) (length ends) before → ReducedList letters ends → of_letters target ≡ Passed → PosesReduced letters ends target r before after
-  pub unfit : (HasRoom (length letters) (length ends) before → ⊥) → (r ≡ Posed-as-Refused OutputTooShort) × (after ≡ before)
+pub record PosesForms (letters ends target : List ℕ) (r : Result Posed Refusal) (before after : Lent) : Type 0 where
+  pub posed : HasRoom (length letters) (length ends) before → ReducedList letters ends → of_letters target ≡ passed → PosesReduced letters ends target r before after
+  pub unfit : (HasRoom (length letters) (length ends) before → ⊥) → (r ≡ Err OutputTooShort) × (after ≡ before)
 
 -- By what the questions say: a refusal changes nothing lent.
-abbrev pub ByQuestions : Asked → List ℕ → List ℕ → List ℕ → Posed → Lent → Lent → Type 0
-ByQuestions (Refused refusal) bytes ends target r before after = (r ≡ Posed-as-Refused refusal) × (after ≡ before)
-ByQuestions Passed bytes ends target r before after =
+abbrev pub ByQuestions : Asked → List ℕ → List ℕ → List ℕ → Result Posed Refusal → Lent → Lent → Type 0
+ByQuestions (Err refusal) bytes ends target r before after = (r ≡ Err refusal) × (after ≡ before)
+ByQuestions (Ok _) bytes ends target r before after =
     PosesReduced (normal_bytes (generators bytes ends)) (normal_ends 0 (generators bytes ends)) target r before after
 
 -- what is asked once questions 7 to 10 have passed: 11
-abbrev pub PosesList : List ℕ → List ℕ → List ℕ → Posed → Lent → Lent → Type 0
+abbrev pub PosesList : List ℕ → List ℕ → List ℕ → Result Posed Refusal → Lent → Lent → Type 0
 PosesList bytes ends target r before after = ByQuestions (question11 (generators bytes ends)) bytes ends target r before after
 
 -- 7, 8, 9 and 10; then 11
@@ -88,6 +92,6 @@ abbrev pub of_query : List ℕ → List ℕ → List ℕ → Asked
 of_query bytes ends target = first_no (of_list bytes ends target ∷ question11 (generators bytes ends) ∷ [])
 
 -- Where there is room for every list that the questions let pass, they are asked; else nothing changes.
-pub record Poses (bytes ends target : List ℕ) (r : Posed) (before after : Lent) : Type 0 where
+pub record Poses (bytes ends target : List ℕ) (r : Result Posed Refusal) (before after : Lent) : Type 0 where
   pub posed : HasRoom most_of_list most_generators before → ByQuestions (of_query bytes ends target) bytes ends target r before after
-  pub unfit : (HasRoom most_of_list most_generators before → ⊥) → (r ≡ Posed-as-Refused OutputTooShort) × (after ≡ before)
+  pub unfit : (HasRoom most_of_list most_generators before → ⊥) → (r ≡ Err OutputTooShort) × (after ≡ before)

@@ -15,26 +15,11 @@ pub(crate) fn has_room(
 ) -> bool
     ensures { Tells result (Room most generators form letters rests children_r children_s wholes) }
 {
-    if limits::SIGNED_ROOM < most {
-        return false;
-    }
-    if form < limits::WORD_LETTERS {
-        return false;
-    }
-    if letters <= most {
-        return false;
-    }
-    if rests <= most {
-        return false;
-    }
-    if children_r <= most {
-        return false;
-    }
-    if children_s <= most {
-        return false;
-    }
-    if wholes < generators {
-        return false;
-    }
-    true
+    most <= limits::SIGNED_ROOM
+        && limits::WORD_LETTERS <= form
+        && most < letters
+        && most < rests
+        && most < children_r
+        && most < children_s
+        && generators <= wholes
 }

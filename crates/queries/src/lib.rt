@@ -4,17 +4,19 @@
 
 mod fitting;
 mod posing;
+pub mod room;
 
 ghost use Rattle.queries.specs.Posing.{Poses, PosesForms};
 
 use crate::fitting::has_room;
-use words::{Asked, Letters, Refusal};
+use words::{Letters, Refusal};
 
-// What is ready: m and t, which are the letters of the reduced list and of the target's form, and the number of the tree's nodes. Or the refusal.
-#[derive(Clone, Copy)]
-pub enum Posed {
-    Ready(Letters, Letters, usize),
-    Refused(Refusal),
+// What is ready: m and t, which are the letters of the reduced list and of the target's form, and the number of the tree's nodes.
+#[derive(Clone, Copy, Debug, PartialEq, Eq)]
+pub struct Posed {
+    pub m: Letters,
+    pub t: Letters,
+    pub count: usize,
 }
 
 // Writes the target's normal form to the front of `form`, and the tree of the reduced list to the fronts of the five slices behind it. A refusal changes
@@ -29,7 +31,7 @@ pub fn pose(
     children_r: &mut [u16],
     children_s: &mut [u16],
     wholes: &mut [u16],
-) -> Posed
+) -> Result<Posed, Refusal>
     ensures { Poses bytes.now ends.now target.now result
         (record {
           form = form.old;
@@ -52,7 +54,7 @@ pub fn pose(
           };
         }) }
 {
-    if has_room(
+    if !has_room(
         limits::LIST_ROOM,
         limits::GENERATORS,
         form.len(),
@@ -62,14 +64,12 @@ pub fn pose(
         children_s.len(),
         wholes.len(),
     ) {
-        return match lists::of_list(bytes, ends, target) {
-            Asked::Refused(refusal) => Posed::Refused(refusal),
-            Asked::Passed => posing::pose_list(
-                bytes, ends, target, form, letters, rests, children_r, children_s, wholes,
-            ),
-        };
+        return Err(Refusal::OutputTooShort);
     }
-    Posed::Refused(Refusal::OutputTooShort)
+    lists::of_list(bytes, ends, target)?;
+    posing::pose_list(
+        bytes, ends, target, form, letters, rests, children_r, children_s, wholes,
+    )
 }
 
 // The same for a list that is reduced already, with or without its inverses, and a target that has passed questions 8 and 10: no question is put.
@@ -83,7 +83,7 @@ pub fn pose_reduced(
     children_r: &mut [u16],
     children_s: &mut [u16],
     wholes: &mut [u16],
-) -> Posed
+) -> Result<Posed, Refusal>
     ensures { PosesForms list_letters.now list_ends.now target.now result
         (record {
           form = form.old;
@@ -106,7 +106,7 @@ pub fn pose_reduced(
           };
         }) }
 {
-    if has_room(
+    if !has_room(
         list_letters.len(),
         list_ends.len(),
         form.len(),
@@ -116,17 +116,17 @@ pub fn pose_reduced(
         children_s.len(),
         wholes.len(),
     ) {
-        return posing::pose_forms(
-            list_letters,
-            list_ends,
-            target,
-            form,
-            letters,
-            rests,
-            children_r,
-            children_s,
-            wholes,
-        );
+        return Err(Refusal::OutputTooShort);
     }
-    Posed::Refused(Refusal::OutputTooShort)
+    posing::pose_forms(
+        list_letters,
+        list_ends,
+        target,
+        form,
+        letters,
+        rests,
+        children_r,
+        children_s,
+        wholes,
+    )
 }

@@ -1,13 +1,12 @@
 // From a list and a target that have passed questions 7 to 10 to the form and the tree: the list is reduced, then the target, and then the tree is built.
 ghost use Rattle.std.specs.Prelude.{◌≡◌, length};
 ghost use Rattle.limits.specs.Limits.{most_generators, most_of_list};
-ghost use Rattle.refusals.specs.Questions.{of_letters};
+ghost use Rattle.refusals.specs.Questions.{passed, of_letters};
 ghost use Rattle.lists.specs.Questions.{of_list};
 ghost use Rattle.queries.specs.Posing.{ReducedList, TreeRoom, Room, Plants, PosesReduced, PosesList};
 
 use crate::Posed;
-use trees::Built;
-use words::{Asked, Letters, Reduction, Refusal, Written};
+use words::{Letters, Refusal};
 
 // Builds the tree of a reduced list, beside a form of t letters. It fits, since the lent slices have room.
 fn plant(
@@ -19,7 +18,7 @@ fn plant(
     children_r: &mut [u16],
     children_s: &mut [u16],
     wholes: &mut [u16],
-) -> Posed
+) -> Result<Posed, Refusal>
     requires { TreeRoom (length list_letters.now) (length list_ends.now) (length letters.old) (length rests.old) (length children_r.old) (length children_s.old) (length wholes.old) }
     ensures { ReducedList list_letters.now list_ends.now
         → Plants list_letters.now list_ends.now t.0 result
@@ -38,6 +37,7 @@ fn plant(
           wholes = wholes.new;
         }) }
 {
+    let m = Letters(list_letters.len() as u16);
     match trees::build(
         list_letters,
         list_ends,
@@ -47,8 +47,8 @@ fn plant(
         children_s,
         &mut wholes[..list_ends.len()],
     ) {
-        Built::Unfit => Posed::Refused(Refusal::TooManyLetters),
-        Built::Nodes(count) => Posed::Ready(Letters(list_letters.len() as u16), t, count),
+        Ok(count) => Ok(Posed { m, t, count }),
+        Err(_) => Err(Refusal::TooManyLetters),
     }
 }
 
@@ -63,9 +63,9 @@ pub(crate) fn pose_forms(
     children_r: &mut [u16],
     children_s: &mut [u16],
     wholes: &mut [u16],
-) -> Posed
+) -> Result<Posed, Refusal>
     requires { Room (length list_letters.now) (length list_ends.now) (length form.old) (length letters.old) (length rests.old) (length children_r.old) (length children_s.old) (length wholes.old) }
-    ensures { ReducedList list_letters.now list_ends.now → of_letters target.now ≡ Asked.Passed
+    ensures { ReducedList list_letters.now list_ends.now → of_letters target.now ≡ passed
         → PosesReduced list_letters.now list_ends.now target.now result
         (record {
           form = form.old;
@@ -88,19 +88,17 @@ pub(crate) fn pose_forms(
           };
         }) }
 {
-    match words::reduce(target, form) {
-        Reduction::Refused(refusal) => Posed::Refused(refusal),
-        Reduction::Done(account) => plant(
-            list_letters,
-            list_ends,
-            account.kept,
-            letters,
-            rests,
-            children_r,
-            children_s,
-            wholes,
-        ),
-    }
+    let account = words::reduce(target, form)?;
+    plant(
+        list_letters,
+        list_ends,
+        account.kept,
+        letters,
+        rests,
+        children_r,
+        children_s,
+        wholes,
+    )
 }
 
 // The same with the list reduced before, which puts question 11.
@@ -114,8 +112,8 @@ pub(crate) fn pose_list(
     children_r: &mut [u16],
     children_s: &mut [u16],
     wholes: &mut [u16],
-) -> Posed
-    requires target_value { of_list bytes.now ends.now target.now ≡ Asked.Passed }
+) -> Result<Posed, Refusal>
+    requires target_value { of_list bytes.now ends.now target.now ≡ passed }
     requires room { Room most_of_list most_generators (length form.old) (length letters.old) (length rests.old) (length children_r.old) (length children_s.old) (length wholes.old) }
     ensures { PosesList bytes.now ends.now target.now result
         (record {
@@ -141,18 +139,16 @@ pub(crate) fn pose_list(
 {
     let mut list_letters = [0u8; limits::LIST_ROOM];
     let mut list_ends = [0u16; limits::GENERATORS];
-    match lists::reduce_list(bytes, ends, &mut list_letters, &mut list_ends) {
-        Written::Refused(refusal) => Posed::Refused(refusal),
-        Written::Length(m) => pose_forms(
-            &list_letters[..m.0 as usize],
-            &list_ends[..ends.len()],
-            target,
-            form,
-            letters,
-            rests,
-            children_r,
-            children_s,
-            wholes,
-        ),
-    }
+    let m = lists::reduce_list(bytes, ends, &mut list_letters, &mut list_ends)?;
+    pose_forms(
+        &list_letters[..usize::from(m.0)],
+        &list_ends[..ends.len()],
+        target,
+        form,
+        letters,
+        rests,
+        children_r,
+        children_s,
+        wholes,
+    )
 }

@@ -1,10 +1,10 @@
 -- Marks and the queue.
 --     grown_none, grown_then      marks and the front of the queue stay, over any number of steps
 --     room_left                   while a mark is not set there is room in the queue
---     visit_new, visit_known      an image is marked and put behind the queue, or stands there
+--     visit_new                   an image is marked and put behind the queue
 -- Assumes nothing.
 use mathlib.Core.Logic.{◌⊎◌, inl, inr}
-use mathlib.Core.Path.{◌≡◌, refl, sym, ap, subst, ◌∙◌}
+use mathlib.Core.Path.{◌≡◌, refl, sym, ap, ◌∙◌}
 use mathlib.Core.List.{List, [], ◌∷◌}
 use Prim.Native.Nat.{ℕ, zero, suc, ◌+◌, ◌<◌}
 use native.Mathlib.Nat.{not-suc-le-zero, le_of_suc-le-suc}
@@ -35,14 +35,6 @@ unset_set (zero ∷ v) zero h e = refl
 unset_set (suc x ∷ v) zero h e = absurd (omega arith)
 unset_set (zero ∷ v) (suc k) h e = ap suc (unset_set v k (le_of_suc-le-suc h) e)
 unset_set (suc x ∷ v) (suc k) h e = unset_set v k (le_of_suc-le-suc h) e
-
-some : (x : ℕ) → (x ≡ 0 → ⊥) → 0 < x
-some zero h = absurd (h refl)
-some (suc x) h = omega arith
-
--- a test of the mark at a place that is k
-pub marked_seen : (v : List ℕ) {k at : ℕ} → at ≡ k → (get_or v at 0 ≡ 0 → ⊥) → Seen v k
-marked_seen v {k} {at} e h = subst (λ (x : ℕ). Seen v x) e (some (get_or v at 0) h)
 
 module _ (v q : List ℕ) (n : ℕ) (m : Marked v q n) (k : ℕ) (small : k < 168) where
   inside : k < length v
@@ -97,9 +89,6 @@ module _ (v q : List ℕ) (n : ℕ) (m : Marked v q n) (k : ℕ) (small : k < 16
           seen = seen;
           only = only;
         }
-
-  pub visit_known : (get_or v k 0 ≡ 0 → ⊥) → Visits k v q n v q n
-  visit_known known = record { marked = m; grown = grown_none v q n; seen = some (get_or v k 0) known; only = λ x s. inl s }
 
 -- ---- before anything is marked
 

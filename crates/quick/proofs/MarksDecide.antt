@@ -1,15 +1,12 @@
 -- What the marks say once the images of the generators are taken in: of all of them for a no, of some for an open answer.
 -- Assumes nothing.
-use mathlib.Core.Bool.{Bool}
 use mathlib.Core.Path.{◌≡◌, refl, sym, ap, subst, ◌∙◌}
 use mathlib.Core.List.{List, [], ◌∷◌}
-use Prim.Native.Nat.{ℕ, zero, suc, ◌+◌, ◌≤◌, ◌<◌}
+use Prim.Native.Nat.{ℕ, ◌+◌, ◌≤◌, ◌<◌}
 use native.Mathlib.Nat.{not-suc-le-zero, add-zero}
 use native.Mathlib.Omega.{arith}
-use lib.Dec.{eqb-suc-zero}
 use lib.ListN.{length, drop, get_or, replicate, length-replicate}
 use lib.Seq.{slice, get_or-drop, drop-drop}
-use Rattle.refusals.specs.Telling.{pick}
 use Rattle.words.specs.Word.{Word}
 use Rattle.words.specs.Bytes.{word}
 use Rattle.products.specs.Product.{generators_from, generators, generator, Factor, plain}
@@ -19,10 +16,9 @@ use Rattle.lists.proofs.Behind.{Behind, behind_begins, behind_next, generators_n
 use Rattle.residues.specs.Residues.{image, QuickNoRight, OpenRight}
 use Rattle.residues.specs.Made.{Made}
 use Rattle.residues.proofs.Closing.{made_open, closed_no}
-use Rattle.quick.specs.Calls.{QuickRight}
-use Rattle.quick.specs.Closing.{act, RowsRight, Seen, Marked, Held, TakesIn, told_by}
-use Rattle.quick.specs.declared.Quick.TheVariants.{No, Open}
-use Rattle.quick.specs.declared.closing.Sizes.{Sizes}
+use Rattle.quick.specs.Closing.{act, RowsRight, Seen, Marked, Held, TakesIn}
+use Rattle.quick.specs.declared.closing.Marks.{Marks}
+use Rattle.quick.specs.declared.closing.Rows.{Rows}
 use Rattle.quick.proofs.Marks.{none_seen, marked_none}
 
 -- ---- the generator at hand
@@ -58,33 +54,26 @@ module _ (gens : List Word) (j target : ℕ) (rows visited : List ℕ) (taken : 
   pub held_open : Seen visited target → OpenRight (plain gens) w
   held_open s = made_open gens (act rows) taken from_list w (subst (λ (k : ℕ). Made (act rows) taken k) e (held.made target s))
 
-  held_no : length gens ≤ j → (Seen visited target → ⊥) → QuickNoRight (plain gens) w
+  pub held_no : length gens ≤ j → (Seen visited target → ⊥) → QuickNoRight (plain gens) w
   held_no all unless =
       closed_no gens (act rows) taken from_list (Seen visited) held.made (λ i h. held.covers i (omega arith)) (λ k b s h. held.closed unless k b s h) w
       (λ s. unless (subst (Seen visited) (sym e) s))
 
-  pub held_told : length gens ≤ j → QuickRight gens w (told_by (get_or visited target 0))
-  held_told all = go (get_or visited target 0) refl
-    where
-      go : (mark : ℕ) → get_or visited target 0 ≡ mark → QuickRight gens w (told_by mark)
-      go zero f = held_no all (λ s. omega arith)
-      go (suc mark) f = subst (λ (t : Bool). QuickRight gens w (pick t No Open)) (sym (eqb-suc-zero mark)) (held_open (omega arith))
-
 -- ---- the loop over the generators: the first i are taken in
 
-pub record Taking (bytes ends : List ℕ) (target from i : ℕ) (rows visited queue : List ℕ) (sizes : Sizes) : Type 0 where
+pub record Taking (bytes ends : List ℕ) (target from i : ℕ) (rows : Rows) (marks : Marks) : Type 0 where
   pub within : i ≤ length ends
   pub behind : Behind bytes ends from i
   pub to_come : drop i (generators bytes ends) ≡ generators_from bytes from (drop i ends)
-  pub size : length rows ≡ 10752
-  pub few : sizes.taken ≤ i
-  pub rows_right : RowsRight rows sizes.taken
-  pub marked : Marked visited queue sizes.count
-  pub held : Held (generators bytes ends) i target rows visited sizes.taken
+  pub size : length rows.entries ≡ 10752
+  pub few : rows.taken ≤ i
+  pub rows_right : RowsRight rows.entries rows.taken
+  pub marked : Marked marks.visited marks.queue marks.count
+  pub held : Held (generators bytes ends) i target rows.entries marks.visited rows.taken
 
 module _ (bytes ends : List ℕ) (target : ℕ) where
   pub taking_begins : Checked bytes ends
-      → Taking bytes ends target 0 0 (replicate 10752 0) (replicate 168 0) (replicate 168 0) (record { taken = 0; count = 0 })
+      → Taking bytes ends target 0 0 (record { entries = replicate 10752 0; taken = 0 }) (record { visited = replicate 168 0; queue = replicate 168 0; count = 0 })
   taking_begins checked =
       record {
         within = omega arith;
@@ -97,10 +86,10 @@ module _ (bytes ends : List ℕ) (target : ℕ) where
         held = held_none (generators bytes ends) target (replicate 10752 0);
       }
 
-  module _ (from i : ℕ) {rows visited queue : List ℕ} {sizes : Sizes} (t : Taking bytes ends target from i rows visited queue sizes) where
-    pub taking_more : {rows' visited' queue' : List ℕ} {sizes' : Sizes} (end img : ℕ) → i < length ends → end ≡ get_or ends i 0
-        → img ≡ image (word (slice from end bytes)) → TakesIn img target rows visited queue sizes rows' visited' queue' sizes'
-        → Taking bytes ends target end (i + 1) rows' visited' queue' sizes'
+  module _ (from i : ℕ) {rows : Rows} {marks : Marks} (t : Taking bytes ends target from i rows marks) where
+    pub taking_more : {rows' : Rows} {marks' : Marks} (end img : ℕ) → i < length ends → end ≡ get_or ends i 0
+        → img ≡ image (word (slice from end bytes)) → TakesIn img target rows marks rows' marks'
+        → Taking bytes ends target end (i + 1) rows' marks'
     taking_more end img inside e f takes =
         let next = t.to_come ∙ generators_next bytes ends from i inside e in
         let gens = generators bytes ends in
@@ -121,9 +110,9 @@ module _ (bytes ends : List ℕ) (target : ℕ) where
       inside_list : i ≤ length (generators bytes ends)
       inside_list = omega (arith, t.within, generators_length bytes 0 ends)
 
-      pub taking_open : Seen visited target → OpenRight (plain (generators bytes ends)) w
-      taking_open = held_open (generators bytes ends) i target rows visited sizes.taken t.held inside_list w e
+      pub taking_open : Seen marks.visited target → OpenRight (plain (generators bytes ends)) w
+      taking_open = held_open (generators bytes ends) i target rows.entries marks.visited rows.taken t.held inside_list w e
 
-      pub taking_told : length ends ≤ i → QuickRight (generators bytes ends) w (told_by (get_or visited target 0))
-      taking_told all =
-          held_told (generators bytes ends) i target rows visited sizes.taken t.held inside_list w e (omega (arith, generators_length bytes 0 ends))
+      pub taking_no : length ends ≤ i → (Seen marks.visited target → ⊥) → QuickNoRight (plain (generators bytes ends)) w
+      taking_no all =
+          held_no (generators bytes ends) i target rows.entries marks.visited rows.taken t.held inside_list w e (omega (arith, generators_length bytes 0 ends))

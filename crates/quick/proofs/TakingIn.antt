@@ -15,7 +15,8 @@ use Rattle.residues.specs.Made.{Made, one}
 use Rattle.residues.proofs.Closing.{made_more}
 use Rattle.quick.specs.Table.{Fills}
 use Rattle.quick.specs.Closing.{act, RowsRight, Seen, Marked, Grown, Visits, OldUsed, Closes, Held, TakesIn}
-use Rattle.quick.specs.declared.closing.Sizes.{Sizes}
+use Rattle.quick.specs.declared.closing.Marks.{Marks}
+use Rattle.quick.specs.declared.closing.Rows.{Rows}
 use Rattle.quick.proofs.Marks.{grown_then}
 use Rattle.quick.proofs.Filling.{times_unit}
 
@@ -23,13 +24,13 @@ use Rattle.quick.proofs.Filling.{times_unit}
 below_or_last : (i j : ℕ) → i < j + 1 → (i < j) ⊎ (i ≡ j)
 below_or_last i j h = elim (dec_lt i j) [ yes low ↦ inl low | no high ↦ inr (omega arith) ]
 
-module _ (img target : ℕ) (rows visited queue : List ℕ) (sizes : Sizes) (right : RowsRight rows sizes.taken) (marked : Marked visited queue sizes.count) where
+module _ (img target : ℕ) (rows : Rows) (marks : Marks) (right : RowsRight rows.entries rows.taken) (marked : Marked marks.visited marks.queue marks.count) where
   -- an image that is marked brings nothing new
-  pub taken_known : Seen visited img → TakesIn img target rows visited queue sizes rows visited queue sizes
+  pub taken_known : Seen marks.visited img → TakesIn img target rows marks rows marks
   taken_known seen = record { rows_right = right; marked = marked; few = omega arith; size = refl; held = held }
     where
-      held : (gens : List Word) (j : ℕ) → img ≡ image (generator gens j) → Held gens j target rows visited sizes.taken
-          → Held gens (j + 1) target rows visited sizes.taken
+      held : (gens : List Word) (j : ℕ) → img ≡ image (generator gens j) → Held gens j target rows.entries marks.visited rows.taken
+          → Held gens (j + 1) target rows.entries marks.visited rows.taken
       held gens j e h =
           record {
             from_list = λ b inside. let (i, low, f) = h.from_list b inside in (i, omega arith, f);
@@ -38,7 +39,7 @@ module _ (img target : ℕ) (rows visited queue : List ℕ) (sizes : Sizes) (rig
             closed = h.closed;
           }
         where
-          covers : (i : ℕ) → (i < j) ⊎ (i ≡ j) → Seen visited (image (generator gens i))
+          covers : (i : ℕ) → (i < j) ⊎ (i ≡ j) → Seen marks.visited (image (generator gens i))
           covers i (inl low) = h.covers i low
           covers i (inr f) = rw (f, ← e) seen
 
@@ -99,5 +100,6 @@ module _ (img target taken : ℕ) (small : img < 168) (rows rows' : List ℕ) (r
             (visits.grown.marks (multiplied (act rows b) (get_or q i 0))
             (h.closed unless (get_or q i 0) b (marked.queued i low).1 (omega arith)))
 
-    pub taken_new : TakesIn img target rows v q (record { taken = taken; count = n }) rows' v₂ q₂ (record { taken = taken + 1; count = n₂ })
+    pub taken_new : TakesIn img target (record { entries = rows; taken = taken }) (record { visited = v; queue = q; count = n })
+        (record { entries = rows'; taken = taken + 1 }) (record { visited = v₂; queue = q₂; count = n₂ })
     taken_new = record { rows_right = rows_more; marked = closes.marked; few = omega arith; size = fills.size; held = held_more }

@@ -2,9 +2,9 @@
 -- Assumes nothing.
 use mathlib.Core.Path.{◌≡◌, sym, ap, subst, ◌∙◌}
 use mathlib.Core.List.{List}
-use Prim.Native.Nat.{ℕ, ◌+◌, ◌≤◌, ◌<◌}
+use Prim.Native.Nat.{ℕ, ◌+◌, ◌<◌}
 use native.Mathlib.Numerals.{add-one}
-use lib.ListN.{length, drop, get_or, drop_of_length-le}
+use lib.ListN.{length, drop, get_or}
 use lib.Seq.{drop-cons}
 use Rattle.words.specs.Bytes.{letter, word}
 use Rattle.residues.specs.Residues.{image, times_letter}
@@ -32,6 +32,3 @@ walking_more letters k i inside w {at} {k'} e f =
       leads =
           rw (step, add-one i) (sym (ap (λ (l : List ℕ). walked k (word l)) (drop-cons letters i 0 inside)) ∙ w.leads);
     }
-
-pub walking_ends : (letters : List ℕ) (k i : ℕ) → length letters ≤ i → Walking letters k i → k ≡ image (word letters)
-walking_ends letters k i all w = sym (ap (λ (l : List ℕ). walked k (word l)) (drop_of_length-le letters all)) ∙ w.leads

@@ -1,13 +1,12 @@
 -- The closure of images under products: what its functions ask for and promise. Assumes nothing: these are definitions.
-use Rattle.std.specs.Prelude.{◌⊎◌, ◌≡◌, List, [], ◌∷◌, ℕ, zero, suc, ◌+◌, ◌*◌, ◌-◌, ◌≤◌, ◌<◌, ltb, eqb, length, get_or}
+use Rattle.std.specs.Prelude.{◌⊎◌, ◌≡◌, List, [], ◌∷◌, ℕ, zero, suc, ◌+◌, ◌*◌, ◌-◌, ◌≤◌, ◌<◌, ltb, length, get_or}
 use Rattle.refusals.specs.Telling.{pick}
 use Rattle.words.specs.Word.{Word}
 use Rattle.products.specs.Product.{generator}
 use Rattle.residues.specs.Residues.{image, multiplied}
 use Rattle.residues.specs.Made.{Made}
-use Rattle.quick.specs.declared.closing.Sizes.{Sizes}
-use Rattle.quick.specs.declared.Quick.{Quick}
-use Rattle.quick.specs.declared.Quick.TheVariants.{No, Open}
+use Rattle.quick.specs.declared.closing.Marks.{Marks}
+use Rattle.quick.specs.declared.closing.Rows.{Rows}
 
 -- Image b of those taken in: what stands at the unit in its row, which begins at 168 b.
 abbrev pub act : List ℕ → ℕ → ℕ
@@ -86,14 +85,10 @@ pub record Held (gens : List Word) (j target : ℕ) (rows visited : List ℕ) (t
   pub closed : ClosedUnless rows taken target visited
 
 -- one image more
-pub record TakesIn (image' target : ℕ) (rows visited queue : List ℕ) (sizes : Sizes) (rows' visited' queue' : List ℕ) (sizes' : Sizes) : Type 0 where
-  pub rows_right : RowsRight rows' sizes'.taken
-  pub marked : Marked visited' queue' sizes'.count
-  pub few : sizes'.taken ≤ sizes.taken + 1
-  pub size : length rows' ≡ length rows
-  pub held : (gens : List Word) (j : ℕ) → image' ≡ image (generator gens j) → Held gens j target rows visited sizes.taken
-      → Held gens (j + 1) target rows' visited' sizes'.taken
-
--- the answer by the target's mark
-abbrev pub told_by : ℕ → Quick
-told_by mark = pick (eqb mark 0) No Open
+pub record TakesIn (image' target : ℕ) (rows : Rows) (marks : Marks) (rows' : Rows) (marks' : Marks) : Type 0 where
+  pub rows_right : RowsRight rows'.entries rows'.taken
+  pub marked : Marked marks'.visited marks'.queue marks'.count
+  pub few : rows'.taken ≤ rows.taken + 1
+  pub size : length rows'.entries ≡ length rows.entries
+  pub held : (gens : List Word) (j : ℕ) → image' ≡ image (generator gens j) → Held gens j target rows.entries marks.visited rows.taken
+      → Held gens (j + 1) target rows'.entries marks'.visited rows'.taken

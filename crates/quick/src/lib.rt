@@ -7,23 +7,20 @@ mod table;
 
 ghost use Rattle.quick.specs.Calls.{Answers};
 
-use words::{Asked, Refusal};
+use words::Refusal;
 
 // No: no product of the list's generators is the target, of however many factors, since none is modulo 7. Open: there is one modulo 7, and the verdicts have
 // to be asked.
-#[derive(Clone, Copy)]
+#[derive(Clone, Copy, Debug, PartialEq, Eq)]
 pub enum Quick {
     No,
     Open,
-    Refused(Refusal),
 }
 
 // Is the target's image no product of one or more of the generators' images? Nothing is lent to be written.
-pub fn quick_no(bytes: &[u8], ends: &[u16], target: &[u8]) -> Quick
+pub fn quick_no(bytes: &[u8], ends: &[u16], target: &[u8]) -> Result<Quick, Refusal>
     ensures { Answers bytes.now ends.now target.now result }
 {
-    match lists::of_list(bytes, ends, target) {
-        Asked::Refused(refusal) => Quick::Refused(refusal),
-        Asked::Passed => deciding::answer_checked(bytes, ends, target),
-    }
+    lists::of_list(bytes, ends, target)?;
+    deciding::answer_checked(bytes, ends, target)
 }

@@ -55,21 +55,11 @@ const LAST_LETTERS: [u8; OTHERS] = [
     1, 1, 0, 0, 0, 0, 0,
 ];
 
-// As a function, so that an index asks for no more than to be inside.
-pub(crate) fn wide(k: u8) -> usize
-    ensures { result ≡ k }
-{
-    k as usize
-}
-
 // The column of a letter in the table: 0 for R, and 1 for S.
 fn column_of(byte: u8) -> usize
     ensures { result ≡ column (letter byte) }
 {
-    if byte == 82 {
-        return 0;
-    }
-    1
+    if byte == b'R' { 0 } else { 1 }
 }
 
 // The product of a matrix with a letter, by their numbers.
@@ -78,7 +68,7 @@ fn times_letter(k: u8, column: usize) -> u8
     requires column_bound { column < 2 }
     ensures { result ≡ times_letter k (letter_of column) }
 {
-    PRODUCTS[2 * wide(k) + column]
+    PRODUCTS[2 * usize::from(k) + column]
 }
 
 // The image of a word: its letters' products, from the unit on.
@@ -86,10 +76,8 @@ pub(crate) fn image_of(letters: &[u8]) -> u8
     ensures { result ≡ image (word letters.now) }
 {
     let mut k = UNIT;
-    let mut i = 0;
-    while i < letters.len() {
-        k = times_letter(k, column_of(letters[i]));
-        i += 1;
+    for letter in letters {
+        k = times_letter(k, column_of(*letter));
     }
     k
 }
@@ -106,7 +94,7 @@ fn last_letter_of(i: usize) -> usize
     requires { i < 167 }
     ensures { result ≡ column_of i }
 {
-    wide(LAST_LETTERS[i])
+    usize::from(LAST_LETTERS[i])
 }
 
 // Writes the products of an image with all 168 on its right to `rows` from the place `at` on, in the order of their numbers. Each takes one letter more than
@@ -116,14 +104,12 @@ pub(crate) fn fill_row(image: u8, rows: &mut [u8], at: usize)
     requires at_in_bounds { at + 168 ≤ length rows.old }
     ensures { Fills image at rows.old rows.new }
 {
-    rows[at + wide(UNIT)] = image;
-    let mut i = 0;
-    while i < OTHERS {
+    rows[at + usize::from(UNIT)] = image;
+    for i in 0..OTHERS {
         let parent = parent_of(i);
         let column = last_letter_of(i);
         let child = times_letter(parent, column);
-        let product = times_letter(rows[at + wide(parent)], column);
-        rows[at + wide(child)] = product;
-        i += 1;
+        let product = times_letter(rows[at + usize::from(parent)], column);
+        rows[at + usize::from(child)] = product;
     }
 }

@@ -2,12 +2,15 @@
 // `stdout`.
 #![tactic(auto)]
 
-ghost use Rattle.std.specs.Prelude.{IfOk};
+ghost use Rattle.std.specs.Prelude.{Result};
+ghost use Rattle.refusals.specs.declared.Refusal.{Refusal};
+ghost use Rattle.quick.specs.declared.Quick.{Quick};
 ghost use Rattle.quick.specs.Calls.{Answers};
 
 use quick::Quick;
 use std::io;
 use std::io::Write;
+use words::Refusal;
 
 fn call(output: &mut impl Write, bytes: &[u8], ends: &[u16], target: &[u8]) -> io::Result<()> {
     showing::lists::list(output, bytes, ends)?;
@@ -16,28 +19,26 @@ fn call(output: &mut impl Write, bytes: &[u8], ends: &[u16], target: &[u8]) -> i
     write!(output, "': ")
 }
 
-fn answer(output: &mut impl Write, answer: Quick) -> io::Result<()> {
+fn answer(output: &mut impl Write, answer: Result<Quick, Refusal>) -> io::Result<()> {
     match answer {
-        Quick::No => write!(output, "no"),
-        Quick::Open => write!(output, "open"),
-        Quick::Refused(refusal) => showing::refusal(output, refusal),
+        Ok(Quick::No) => write!(output, "no"),
+        Ok(Quick::Open) => write!(output, "open"),
+        Err(refusal) => write!(output, "{refusal}"),
     }
 }
 
-fn ask(output: &mut impl Write, bytes: &[u8], ends: &[u16], target: &[u8]) -> io::Result<Quick>
-    ensures { IfOk result (λ given. Answers bytes.now ends.now target.now given) }
+fn ask(output: &mut impl Write, bytes: &[u8], ends: &[u16], target: &[u8]) -> io::Result<()>
+    ensures { (given : Result Quick Refusal) × Answers bytes.now ends.now target.now given }
 {
-    call(output, bytes, ends, target)?;
     let given = quick::quick_no(bytes, ends, target);
+    call(output, bytes, ends, target)?;
     answer(output, given)?;
-    writeln!(output)?;
-    Ok(given)
+    writeln!(output)
 }
 
 fn without_list(output: &mut impl Write, target: &[u8]) -> io::Result<()> {
     let ends = [0u16; 0];
-    ask(output, b"", &ends, target)?;
-    Ok(())
+    ask(output, b"", &ends, target)
 }
 
 // 02's list SR: no power of T is R, even modulo 7, but its inverse RSS is one there, the sixth.
@@ -47,8 +48,7 @@ fn powers_of_t(output: &mut impl Write) -> io::Result<()> {
     ask(output, b"SR", &ends, b"RSS")?;
     ask(output, b"SR", &ends, b"SRSRSR")?;
     ask(output, b"SR", &ends, b"")?;
-    ask(output, b"SR", &ends, b"SSR")?;
-    Ok(())
+    ask(output, b"SR", &ends, b"SSR")
 }
 
 // "so an empty list always gets it"
@@ -72,8 +72,7 @@ fn worked_values(output: &mut impl Write) -> io::Result<()> {
     let two = [2u16, 3];
     ask(output, b"RSS", &two, b"R")?;
     let three = [4u16, 5, 9];
-    ask(output, b"RSRSSSRSS", &three, b"R")?;
-    Ok(())
+    ask(output, b"RSRSSSRSS", &three, b"R")
 }
 
 // Only S: its powers are the unit, S and SS. With R behind it every word is a product.
@@ -83,8 +82,7 @@ fn both_letters(output: &mut impl Write) -> io::Result<()> {
     ask(output, b"S", &s, b"R")?;
     let both = [1u16, 2];
     ask(output, b"SR", &both, b"R")?;
-    ask(output, b"SR", &both, b"RSRSSRSRSRSSRSSR")?;
-    Ok(())
+    ask(output, b"SR", &both, b"RSRSSRSRSRSSRSSR")
 }
 
 // Generators of the matrices (a b; c d) with 7 dividing c: the products of their images are the 21 with c = 0. T, SRSR and (4 3; -7 -5) are such, R, SSR and
@@ -99,8 +97,7 @@ fn gamma_0_7(output: &mut impl Write) -> io::Result<()> {
     ask(output, list, &ends, b"SSR")?;
     ask(output, list, &ends, b"SSRSSRSSRSSRSSRSSR")?;
     ask(output, list, &ends, b"SSRSSRSSRSSRSSRSSRSSR")?;
-    ask(output, list, &ends, b"")?;
-    Ok(())
+    ask(output, list, &ends, b"")
 }
 
 // Questions 7 to 12, and the largest that pass.
@@ -109,11 +106,11 @@ fn refused(output: &mut impl Write) -> io::Result<()> {
     ask(output, b"", &too_many, b"R")?;
     let most = [0u16; 64];
     ask(output, b"", &most, b"R")?;
-    let letters = [82u8; 4097];
+    let letters = [b'R'; 4097];
     let ends = [4097u16];
     ask(output, &letters, &ends, b"R")?;
     without_list(output, &letters)?;
-    let enough = [82u8; 4096];
+    let enough = [b'R'; 4096];
     let all = [4096u16];
     ask(output, &enough, &all, &enough)?;
     let falling = [2u16, 1, 3];
@@ -135,8 +132,7 @@ fn refused(output: &mut impl Write) -> io::Result<()> {
         b"RSS",
         &two,
         b"RSSRSSRSSRSSRSSRSSRSSRSSRSSRSSRSSRSSRSSRSSRSSRSSRSSRSSRSSRSSRSSRSSRSSRSSRSSRSSRSS",
-    )?;
-    Ok(())
+    )
 }
 
 // The largest list: four generators of 80 letters, each with an even number of R's, and a target of 80 with an odd number; modulo 7 it is a product all the same.
@@ -147,8 +143,7 @@ fn four_of_80(output: &mut impl Write) -> io::Result<()> {
         b"SRSRSRSRSRSRSRSRSRSRSRSRSRSRSRSRSRSRSRSRSRSRSRSRSRSRSRSRSRSRSRSRSRSRSRSRSRSRSRSRRSRSRSRSRSRSRSRSRSRSRSRSRSRSRSRSRSRSRSRSRSRSRSRSRSRSRSRSRSRSRSRSRSRSRSRSRSRSRSSSRSSRSSRSSRSSRSSRSSRSSRSSRSSRSSRSSRSSRSSRSSRSSRSSRSSRSSRSSRSSRSSRSSRSSRSSRSSRSSRSSRSSRSSRSSRSRSRSRSRSRSRSRSRSRSRSRSRSRSRSRSRSRSRSRSRSRSRSRSRSRSRSRSRSRSRSRSRSRSRS",
         &ends,
         b"RSSRSSRSSRSSRSSRSSRSSRSSRSSRSSRSSRSSRSSRSSRSSRSSRSSRSSRSSRSSRSSRSSRSSRSSRSSRSSRS",
-    )?;
-    Ok(())
+    )
 }
 
 fn main(rt: HostRuntime) -> io::Result<()> {

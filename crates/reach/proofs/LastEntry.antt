@@ -1,6 +1,6 @@
 -- The table is closed and then the rows are filled. What is ready fits both, so the verdict by what stands at the end of the last row is right: `decided`.
 -- Assumes that the list and the target are ready, and that questions 12 and 15 have passed.
-use mathlib.Core.Bool.{Bool}
+use Rattle.std.specs.Prelude.{Result, eqb}
 use mathlib.Core.Path.{◌≡◌, refl}
 use mathlib.Core.List.{List}
 use Prim.Native.Nat.{ℕ, zero, suc, ◌*◌, ◌≤◌}
@@ -17,6 +17,7 @@ use Rattle.sizes.specs.Questions.{side}
 use Rattle.sizes.proofs.Passing.{SizesPassed}
 use Rattle.trees.specs.Tree.{at}
 use Rattle.trees.specs.Numbering.{numbered}
+use Rattle.trees.specs.declared.Unfit.{Unfit}
 use Rattle.trees.proofs.Remaining.{drop_later}
 use Rattle.tables.specs.Filling.{Fills as FillsTable}
 use Rattle.tables.proofs.Filled.{table_filled}
@@ -26,11 +27,11 @@ use Rattle.rows.proofs.FilledFits.{filled_fits, rows_filled}
 use Rattle.rows.proofs.Reaching.{row_yes, row_no}
 use Rattle.queries.specs.Ready.{ReadyFor}
 use Rattle.reach.specs.Calls.{Lent, ReachedRight}
-use Rattle.reach.specs.Deciding.{of_entry, Decides}
+use Rattle.reach.specs.Deciding.{Decides}
 
 -- a verdict by an entry
 by_entry : (gens : List Word) (target : Word) (entry : ℕ) → (entry ≡ 0 → YesRight (plain gens) target) → ((entry ≡ 0 → ⊥) → NoRight (plain gens) target)
-    → ReachedRight gens target (of_entry entry)
+    → ReachedRight gens target (eqb entry 0)
 by_entry gens target zero reached unreached = reached refl
 by_entry gens target (suc e) reached unreached =
     let some : suc e ≡ 0 → ⊥ = λ none. omega (arith, none) in rw (ne_eqb (suc e) 0 some) (unreached some)
@@ -48,9 +49,9 @@ module _ {gens : List Word} {m count : ℕ} {letters rests children_r children_s
   few_nodes = omega (arith, ready.few, ready.short)
 
   module _ (lent : Lent) (passed : SizesPassed m (length form) 0 (length lent.first) (length lent.second) 0)
-      (r : Bool) {table : List ℕ} (closes : FillsTable weightless count letters rests children_r children_s wholes 1 lent.first r table)
-      (s : Bool) {rows : List ℕ} (fills : FillsRows count 1 children_r children_s form table lent.second s rows) where
-    pub decided : Decides (side m (length form)) gens (word form) (of_entry (at rows (length form * count))) lent (record { first = table; second = rows })
+      (r : Result (Unit {0}) Unfit) {table : List ℕ} (closes : FillsTable weightless count letters rests children_r children_s wholes 1 lent.first r table)
+      (s : Result (Unit {0}) Unfit) {rows : List ℕ} (fills : FillsRows count 1 children_r children_s form table lent.second s rows) where
+    pub decided : Decides (side m (length form)) gens (word form) (eqb (at rows (length form * count)) 0) lent (record { first = table; second = rows })
     decided =
         let q : ℕ = side m (length form) in
         let (pairs_within, rows_within) = square_within m (length form) count ready.few in

@@ -3,15 +3,13 @@
 use mathlib.Core.Path.{◌≡◌, ◌∙◌}
 use mathlib.Core.List.{List, [], ◌∷◌}
 use Prim.Native.Nat.{ℕ}
-use Rattle.refusals.specs.Questions.{question12}
-use Rattle.refusals.specs.declared.Asked.{Asked}
-use Rattle.refusals.specs.declared.Asked.TheVariants.{Passed}
+use Rattle.refusals.specs.Questions.{Asked, passed, question12}
 use Rattle.refusals.proofs.Asking.{passed_first, first_no_head, first_no_tail}
 use Rattle.sizes.specs.Questions.{side, of_bound, of_tables}
 use Rattle.sizes.proofs.Passing.{SizesPassed, sizes_passed}
 use Rattle.reach.specs.Questions.{of_room}
 
-pub room_passed : (m t first second : ℕ) → of_room m t first second ≡ Passed → SizesPassed m t 0 first second 0
+pub room_passed : (m t first second : ℕ) → of_room m t first second ≡ passed → SizesPassed m t 0 first second 0
 room_passed m t first second e =
     let tables : List Asked = of_tables (side m t) first second ∷ [] in
     sizes_passed m t 0 first second 0

@@ -1,20 +1,13 @@
 -- The steps from what is ready to a verdict: inner contracts of the unbounded verdict. Assumes nothing: these are definitions.
-use Rattle.std.specs.Prelude.{◌≡◌, List, ℕ, ◌*◌, eqb, length, drop}
+use Rattle.std.specs.Prelude.{Bool, ◌≡◌, List, ℕ, ◌*◌, length, drop}
 use Rattle.words.specs.Word.{Word}
-use Rattle.refusals.specs.Telling.{pick}
 use Rattle.sizes.specs.Questions.{side}
 use Rattle.reach.specs.Questions.{of_room}
-use Rattle.reach.specs.Calls.{Lent, ReachedRight, ReachedBy}
-use Rattle.reach.specs.declared.Reached.{Reached}
-use Rattle.reach.specs.declared.Reached.TheVariants.{Yes, No}
-
--- yes for an entry that is 0
-abbrev pub of_entry : ℕ → Reached
-of_entry entry = pick (eqb entry 0) Yes No
+use Rattle.reach.specs.Calls.{Lent, Reached, ReachedRight, ReachedBy}
 
 -- A verdict before the tables are zeroed: beyond q × q they remain.
-pub record Decides (q : ℕ) (gens : List Word) (target : Word) (r : Reached) (before after : Lent) : Type 0 where
-  pub right : ReachedRight gens target r
+pub record Decides (q : ℕ) (gens : List Word) (target : Word) (verdict : Bool) (before after : Lent) : Type 0 where
+  pub right : ReachedRight gens target verdict
   pub first : drop (q * q) after.first ≡ drop (q * q) before.first
   pub second : drop (q * q) after.second ≡ drop (q * q) before.second
 

@@ -3,8 +3,7 @@
 use Rattle.std.specs.Prelude.{List, [], ◌∷◌, ℕ, length}
 use Rattle.words.specs.Word.{nf}
 use Rattle.words.specs.Bytes.{word}
-use Rattle.refusals.specs.Questions.{first_no, question12}
-use Rattle.refusals.specs.declared.Asked.{Asked}
+use Rattle.refusals.specs.Questions.{Asked, first_no, question12}
 use Rattle.products.specs.Product.{generators}
 use Rattle.lists.specs.Questions.{of_list, question11}
 use Rattle.lists.specs.NormalList.{total}

@@ -2,12 +2,12 @@
 // of 65,535, how many entries are 0 and how many are still full. What it must print stands in `stdout`.
 #![tactic(auto)]
 
-ghost use Rattle.std.specs.Prelude.{IfOk};
-ghost use Rattle.reach.specs.Calls.{Reaches};
+ghost use Rattle.std.specs.Prelude.{◌^◌, ◌<◌};
+ghost use Rattle.reach.specs.Calls.{Reached, Reaches};
 
-use reach::Reached;
 use std::io;
 use std::io::Write;
+use words::Refusal;
 
 // Enough for q up to 20, and for the largest q of all: 320 letters, a target of 80.
 const TABLE: usize = 400;
@@ -29,11 +29,11 @@ fn call(output: &mut impl Write, bytes: &[u8], ends: &[u16], target: &[u8]) -> i
     write!(output, "': ")
 }
 
-fn verdict(output: &mut impl Write, answer: Reached) -> io::Result<()> {
+fn verdict(output: &mut impl Write, answer: Result<bool, Refusal>) -> io::Result<()> {
     match answer {
-        Reached::Yes => write!(output, "yes"),
-        Reached::No => write!(output, "no"),
-        Reached::Refused(refusal) => showing::refusal(output, refusal),
+        Ok(true) => write!(output, "yes"),
+        Ok(false) => write!(output, "no"),
+        Err(refusal) => write!(output, "{refusal}"),
     }
 }
 
@@ -44,32 +44,39 @@ fn ask(
     target: &[u8],
     first: &mut [u16],
     second: &mut [u16],
-) -> io::Result<Reached>
-    ensures { IfOk result (λ answer. Reaches bytes.now ends.now target.now answer
+) -> io::Result<()>
+    ensures { (answer : Reached) × Reaches bytes.now ends.now target.now answer
         (record { first = first.old; second = second.old })
-        (record { first = first.new; second = second.new })) }
+        (record { first = first.new; second = second.new }) }
 {
-    call(output, bytes, ends, target)?;
     let answer = reach::reachable(bytes, ends, target, first, second);
+    call(output, bytes, ends, target)?;
     verdict(output, answer)?;
     showing::lent::table(output, first)?;
     showing::lent::table(output, second)?;
-    writeln!(output)?;
-    Ok(answer)
+    writeln!(output)
+}
+
+// Lends two tables of so many entries, full of 65,535.
+fn lending<const ENTRIES: usize>(
+    output: &mut impl Write,
+    bytes: &[u8],
+    ends: &[u16],
+    target: &[u8],
+) -> io::Result<()>
+    requires { ENTRIES < 2 ^ 32 }
+{
+    let mut first = [65535u16; ENTRIES];
+    let mut second = [65535u16; ENTRIES];
+    ask(output, bytes, ends, target, &mut first, &mut second)
 }
 
 fn small(output: &mut impl Write, bytes: &[u8], ends: &[u16], target: &[u8]) -> io::Result<()> {
-    let mut first = [65535u16; TABLE];
-    let mut second = [65535u16; TABLE];
-    ask(output, bytes, ends, target, &mut first, &mut second)?;
-    Ok(())
+    lending::<TABLE>(output, bytes, ends, target)
 }
 
 fn large(output: &mut impl Write, bytes: &[u8], ends: &[u16], target: &[u8]) -> io::Result<()> {
-    let mut first = [65535u16; LARGEST_TABLE];
-    let mut second = [65535u16; LARGEST_TABLE];
-    ask(output, bytes, ends, target, &mut first, &mut second)?;
-    Ok(())
+    lending::<LARGEST_TABLE>(output, bytes, ends, target)
 }
 
 fn without_list(output: &mut impl Write, target: &[u8]) -> io::Result<()> {
@@ -118,18 +125,13 @@ fn relations(output: &mut impl Write) -> io::Result<()> {
 // A generator of 80 letters and its inverse, which has 80 too. No two of their suffixes are the same, so there are as many states as q is, and the tables
 // are used to their last entries.
 fn whole_square(output: &mut impl Write) -> io::Result<()> {
-    let mut first = [65535u16; SQUARE];
-    let mut second = [65535u16; SQUARE];
     let ends = [80u16, 160];
-    ask(
+    lending::<SQUARE>(
         output,
         b"RSRSSRSRSSRSRSSRSRSSRSRSSRSRSSRSRSSRSRSSRSRSSRSRSSRSRSSRSRSSRSRSSRSRSSRSRSSRSRSSSRSSRSRSSRSRSSRSRSSRSRSSRSRSSRSRSSRSRSSRSRSSRSRSSRSRSSRSRSSRSRSSRSRSSRSRSSRSRSSR",
         &ends,
         b"",
-        &mut first,
-        &mut second,
-    )?;
-    Ok(())
+    )
 }
 
 // Powers of T: each product of SR is one, its inverse is none of them, and R is not either; with the inverse R is still none.
@@ -158,7 +160,7 @@ fn beyond_every_bound(output: &mut impl Write) -> io::Result<()> {
 fn refused(output: &mut impl Write) -> io::Result<()> {
     let too_many = [0u16; 65];
     small(output, b"", &too_many, b"R")?;
-    let letters = [82u8; 4097];
+    let letters = [b'R'; 4097];
     let ends = [4097u16];
     small(output, &letters, &ends, b"R")?;
     without_list(output, &letters)?;
@@ -192,8 +194,7 @@ fn table_rooms(output: &mut impl Write) -> io::Result<()> {
     let ends = [2u16];
     ask(output, b"SR", &ends, b"SRSRSR", &mut short, &mut second)?;
     ask(output, b"SR", &ends, b"SRSRSR", &mut first, &mut short)?;
-    ask(output, b"SR", &ends, b"SRSRSR", &mut first, &mut second)?;
-    Ok(())
+    ask(output, b"SR", &ends, b"SRSRSR", &mut first, &mut second)
 }
 
 // The largest tables. Four generators of 80 letters, each with an even number of R's: the target is the third, or has an odd number of R's, which no product

@@ -1,13 +1,11 @@
 -- The questions at the door. Document 01: "Each call puts, in rising order, those questions that concern its inputs. The first no is
 -- returned as its number with a place". Here are the numbers and places of every refusal, and the questions that concern words: 8, 10, 12 and
 -- 14, of which 12 and 14 concern matrices and witnesses too. Assumes nothing: these are definitions.
-use Rattle.std.specs.Prelude.{Bool, true, List, [], ◌∷◌, ℕ, suc, eqb, leb, length}
+use Rattle.std.specs.Prelude.{Result, Ok, Err, Bool, true, List, [], ◌∷◌, ℕ, suc, eqb, leb, length}
 use Rattle.limits.specs.Limits.{most_letters, most_of_form}
 use Rattle.refusals.specs.Telling.{pick}
 use Rattle.refusals.specs.declared.Refusal.{Refusal}
 use Rattle.refusals.specs.declared.Refusal.TheVariants.{CardTooLong, BitMapWrong, FieldCut, SpareByte, EntryTooLarge, DeterminantNotOne, TooManyGenerators, TooManyLetters, EndsWrong, NotALetter, GeneratorTooLong, NormalFormTooLong, BoundTooLarge, OutputTooShort, TableTooShort, MatrixTooLarge}
-use Rattle.refusals.specs.declared.Asked.{Asked}
-use Rattle.refusals.specs.declared.Asked.TheVariants.{Passed, Refused}
 
 -- document 01's number of the question that is answered no
 abbrev pub number : Refusal → ℕ
@@ -47,15 +45,23 @@ place OutputTooShort = 0
 place TableTooShort = 0
 place MatrixTooLarge = 0
 
+-- what a question says: it passes, or it is the refusal
+abbrev pub Asked : Type 0
+Asked = Result (Unit {0}) Refusal
+
+-- the answer yes
+abbrev pub passed : Asked
+passed = Ok tt
+
 -- a question that is answered yes by the test, and else refuses
 abbrev pub asks : Bool → Refusal → Asked
-asks test refusal = pick test Passed (Refused refusal)
+asks test refusal = pick test passed (Err refusal)
 
 -- the first no of the questions that a call puts
 abbrev pub first_no : List Asked → Asked
-first_no [] = Passed
-first_no (Passed ∷ questions) = first_no questions
-first_no (Refused refusal ∷ questions) = Refused refusal
+first_no [] = passed
+first_no (Ok _ ∷ questions) = first_no questions
+first_no (Err refusal ∷ questions) = Err refusal
 
 -- 8: "Have the list's letters together at most 4,096, and the target or single word at most 4,096?" Of one such count.
 abbrev pub question8 : ℕ → Asked

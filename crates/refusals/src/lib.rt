@@ -6,9 +6,12 @@ ghost use Rattle.std.specs.Prelude.{true, ◌≡◌, ◌≤◌, length};
 ghost use Rattle.refusals.specs.Telling.{Tells};
 ghost use Rattle.refusals.specs.Questions.{is_letter, first_other, of_letters, of_word, number as number_of, place as place_of};
 
+use std::error::Error;
+use std::fmt;
+
 // Why a call refuses: the first question answered no, with its place where it names one. `number` and `place` of specs/ give
 // document 01's numbers.
-#[derive(Clone, Copy)]
+#[derive(Clone, Copy, Debug, PartialEq, Eq)]
 pub enum Refusal {
     CardTooLong,
     BitMapWrong,
@@ -28,21 +31,18 @@ pub enum Refusal {
     MatrixTooLarge,
 }
 
-// What a question says of a call's inputs.
-#[derive(Clone, Copy)]
-pub enum Asked {
-    Passed,
-    Refused(Refusal),
+impl fmt::Display for Refusal {
+    fn fmt<W: fmt::Write>(&self, f: &mut fmt::Formatter<W>) -> fmt::Result {
+        write!(f, "refused {} {}", number(*self), place(*self))
+    }
 }
+
+impl Error for Refusal {}
 
 fn is_letter(b: u8) -> bool
     ensures { result ≡ is_letter b }
 {
-    match b {
-        82 => true,
-        83 => true,
-        _ => false,
-    }
+    matches!(b, b'R' | b'S')
 }
 
 // Whether every byte so far was a letter, and this one is too.
@@ -60,10 +60,8 @@ fn all_letters(word: &[u8]) -> bool
     ensures { Tells result (length word.now ≤ first_other word.now) }
 {
     let mut all = true;
-    let mut i = 0;
-    while i < word.len() {
-        all = letter_too(all, word[i]);
-        i += 1;
+    for byte in word {
+        all = letter_too(all, *byte);
     }
     all
 }
@@ -72,15 +70,12 @@ fn all_letters(word: &[u8]) -> bool
 fn find_other(word: &[u8]) -> usize
     ensures { result ≡ first_other word.now }
 {
-    let mut i = 0;
-    while i < word.len() {
-        if is_letter(word[i]) {
-            i += 1;
-        } else {
+    for (i, byte) in word.iter().enumerate() {
+        if !is_letter(*byte) {
             return i;
         }
     }
-    i
+    word.len()
 }
 
 // The same. Most words have only letters, which `all_letters` tells sooner.
@@ -94,32 +89,28 @@ pub fn first_other(word: &[u8]) -> usize
 }
 
 // Questions 8 and 10 of a single word.
-pub fn of_letters(word: &[u8]) -> Asked
+pub fn of_letters(word: &[u8]) -> Result<(), Refusal>
     ensures { result ≡ of_letters word.now }
 {
     if limits::WORD_LETTERS < word.len() {
-        return Asked::Refused(Refusal::TooManyLetters);
+        return Err(Refusal::TooManyLetters);
     }
     let other = first_other(word);
     if other < word.len() {
-        return Asked::Refused(Refusal::NotALetter(other));
+        return Err(Refusal::NotALetter(other));
     }
-    Asked::Passed
+    Ok(())
 }
 
 // Questions 8, 10 and 14 of a single word, where `needed` is the room asked for.
-pub fn of_word(word: &[u8], needed: usize, room: usize) -> Asked
+pub fn of_word(word: &[u8], needed: usize, room: usize) -> Result<(), Refusal>
     ensures { result ≡ of_word word.now needed room }
 {
-    match of_letters(word) {
-        Asked::Refused(refusal) => Asked::Refused(refusal),
-        Asked::Passed => {
-            if room < needed {
-                return Asked::Refused(Refusal::OutputTooShort);
-            }
-            Asked::Passed
-        }
+    of_letters(word)?;
+    if room < needed {
+        return Err(Refusal::OutputTooShort);
     }
+    Ok(())
 }
 
 // Document 01's number of the question that a refusal answers no to.

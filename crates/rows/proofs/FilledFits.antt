@@ -2,7 +2,8 @@
 --     filled_fits    it fits the rows of any target that is not too long
 --     rows_filled    where the inputs fit, the rows are filled
 -- Assumes nothing.
-use mathlib.Core.Bool.{Bool, true, false}
+use Rattle.std.specs.Prelude.{Result, Ok, Err}
+use Rattle.trees.specs.declared.Unfit.{Unfit}
 use mathlib.Core.Path.{sym}
 use mathlib.Core.List.{List}
 use Prim.Native.Nat.{ℕ, suc, ◌-◌, ◌*◌, ◌≤◌, ◌<◌}
@@ -40,8 +41,8 @@ filled_fits {count = count} {n} {table = table} target rows fits filled few shor
       };
     }
 
-pub rows_filled : {count n : ℕ} {children_r children_s target table before : List ℕ} (r : Bool) {after : List ℕ}
+pub rows_filled : {count n : ℕ} {children_r children_s target table before : List ℕ} (r : Result Unit Unfit) {after : List ℕ}
     → Fills count n children_r children_s target table before r after → Fits count n children_r children_s target table before
     → Filled count n children_r children_s target table before after
-rows_filled true (fits, filled) fit = filled
-rows_filled false (unfit, kept) fit = absurd (unfit fit)
+rows_filled (Ok _) (fits, filled) fit = filled
+rows_filled (Err _) (unfit, kept) fit = absurd (unfit fit)

@@ -10,7 +10,6 @@ use lib.ListN.{length}
 use borrow.Rule.Slice.PartMut.{put_mid}
 use Rattle.refusals.specs.Telling.{pick}
 use Rattle.trees.specs.Tree.{at}
-use Rattle.trees.specs.Bounds.{AtMost}
 use Rattle.tables.specs.Rules.{place}
 use Rattle.rows.specs.Rounds.{read_at, least_sum, NextRow}
 use Rattle.rows.proofs.Sums.{sum_same}
@@ -29,11 +28,6 @@ module _ (count n i : ℕ) (children table rows : List ℕ) (inside : (p : ℕ) 
   -- what is read, at the flat places of the rows
   read_at_lem : (v : ℕ) → v < count → at first v ≡ read_at n children (λ p. at rows (place count i p)) v
   read_at_lem v h = reads v h ∙ ap (pick (eqb (at children v) 0) (n + 1)) (part_at rows (i * count) count (at children v) (inside v h))
-
-  pub first_low : AtMost (n + 1) rows (suc i * count) → AtMost (n + 1) first count
-  first_low low v h =
-      let child = inside v h in
-      omega (arith, read_at_lem v h, read_low n children (λ p. at rows (place count i p)) v (low (place count i (at children v)) (omega arith)))
 
   pub next_row : (row : List ℕ) → length row ≡ count → ((q : ℕ) → q < count → at row q ≡ least_sum count table (at first) q count)
       → NextRow count n children table i rows (put_mid (i * count + count) (i * count + count + count - (i * count + count)) rows row)

@@ -1,28 +1,24 @@
 -- A slice whose front is rewritten, one store a turn, and a slice with a part rewritten. Assumes nothing.
-use mathlib.Core.Path.{◌≡◌, refl, sym, ap, subst, ◌∙◌}
-use mathlib.Core.List.{List}
-use Prim.Native.Nat.{ℕ, min, ◌+◌, ◌-◌, ◌≤◌, ◌<◌}
-use native.Mathlib.Decide.{ℕ_discrete}
+use mathlib.Core.Path.{◌≡◌, sym, ap, ◌∙◌}
+use mathlib.Core.List.{List, ◌++◌}
+use Prim.Native.Nat.{ℕ, ◌+◌, ◌-◌, ◌≤◌}
 use native.Mathlib.Omega.{arith}
-use lib.ListN.{length, drop, set, length-set, length-drop}
-use lib.Seq.{get_or-set_same, get_or-set_other, get_or-drop, ext_get_or}
+use lib.ListN.{length, take, drop, length-drop, length-append, get_or-append}
+use lib.Seq.{get_or-drop, get_or-take, get_or-append-add, length-take-le, ext_get_or}
 use Rattle.trees.specs.Tree.{at}
 use Rattle.rows.specs.Rounds.{Rewritten}
 
-pub rewritten_none : {f : ℕ → ℕ} {l : List ℕ} → Rewritten f l l 0
-rewritten_none = record { long = refl; new = λ p h. absurd (omega arith); old = λ p h. refl }
-
-pub rewritten_more : {f : ℕ → ℕ} {before after : List ℕ} {m v : ℕ} → Rewritten f before after m → m < length before → v ≡ f m
-    → Rewritten f before (set after m v) (m + 1)
-rewritten_more {f} {before} {after} {m} {v} r h e =
+-- the front of a slice is that of another
+pub rewritten_front : (from to new : List ℕ) (m : ℕ) → m ≤ length from → m ≤ length to → new ≡ take m from → Rewritten (at from) to (new ++ drop m to) m
+rewritten_front from to new m room room' copied =
+    let long : length new ≡ m = ap length copied ∙ length-take-le m from room in
     record {
-      long = length-set after m v ∙ r.long;
-      new = λ p k.
-          elim (ℕ_discrete p m) [
-            | yes same ↦ ap (at (set after m v)) same ∙ get_or-set_same after m v 0 (omega (arith, r.long)) ∙ e ∙ ap f (sym same)
-            | no other ↦ get_or-set_other after m p v 0 other ∙ r.new p (omega arith)
-          ];
-      old = λ p k. get_or-set_other after m p v 0 (λ same. omega arith) ∙ r.old p (omega arith);
+      long = length-append new (drop m to) ∙ omega (arith, long, length-drop m to);
+      new = λ p h. get_or-append new (drop m to) 0 p (omega (arith, long)) ∙ ap (λ (l : List ℕ). at l p) copied ∙ get_or-take m from p 0 h;
+      old = λ p h.
+          let here : p ≡ length new + (p - m) = omega arith in
+          let there : m + (p - m) ≡ p = omega arith in
+          ap (at (new ++ drop m to)) here ∙ get_or-append-add new (drop m to) (p - m) 0 ∙ get_or-drop m to (p - m) 0 ∙ ap (at to) there;
     }
 
 -- two slices of one length that agree from a place on have the same rest there
@@ -31,14 +27,3 @@ pub same_rest : (before after : List ℕ) (m : ℕ) → length after ≡ length 
 same_rest before after m long same =
     ext_get_or 0 (drop m after) (drop m before) (length-drop m after ∙ ap (λ (k : ℕ). k - m) long ∙ sym (length-drop m before))
     (λ p h. get_or-drop m after p 0 ∙ same (m + p) (omega arith) ∙ sym (get_or-drop m before p 0))
-
-pub rewritten_to : {f : ℕ → ℕ} {before after : List ℕ} {m k : ℕ} → Rewritten f before after m → m ≡ k → Rewritten f before after k
-rewritten_to {f} {before} {after} r e = subst (λ (k : ℕ). Rewritten f before after k) e r
-
-pub rewritten_as : {f g : ℕ → ℕ} {before after : List ℕ} {m : ℕ} → Rewritten f before after m → ((p : ℕ) → p < m → f p ≡ g p)
-    → Rewritten g before after m
-rewritten_as r same = record { long = r.long; new = λ p h. r.new p h ∙ same p h; old = r.old }
-
--- nothing is lowered where no entry is above what it would be lowered to
-pub lowered_none : (f : ℕ → ℕ) (row : List ℕ) (m : ℕ) → ((p : ℕ) → p < m → at row p ≤ f p) → Rewritten (λ q. min (at row q) (f q)) row row m
-lowered_none f row m low = record { long = refl; new = λ p h. omega (arith, low p h); old = λ p h. refl }

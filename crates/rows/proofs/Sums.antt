@@ -1,21 +1,15 @@
 -- The least of what is read at a node and of the sums over all nodes. Assumes nothing.
 use mathlib.Core.Logic.{◌⊎◌, inl, inr}
-use mathlib.Core.Path.{◌≡◌, refl, ap, ◌∙◌}
+use mathlib.Core.Path.{◌≡◌, refl, ap}
 use mathlib.Core.List.{List}
-use Prim.Native.Nat.{ℕ, zero, suc, min, ◌+◌, ◌≤◌, ◌<◌}
-use lib.ListN.{length}
+use Prim.Native.Nat.{ℕ, zero, suc, ◌+◌, ◌≤◌, ◌<◌}
 use native.Mathlib.Decide.{ℕ_discrete, dec_le}
-use native.Mathlib.Numerals.{add-one}
 use native.Mathlib.Omega.{arith}
 use Rattle.trees.specs.Tree.{at}
 use Rattle.tables.specs.Rules.{place}
-use Rattle.rows.specs.Rounds.{Rewritten, least_sum}
+use Rattle.rows.specs.Rounds.{least_sum}
 
 module _ (count : ℕ) (table : List ℕ) (read : ℕ → ℕ) (q : ℕ) where
-  -- a turn of a loop over the nodes
-  pub sum_more : (m x : ℕ) → x ≡ least_sum count table read q m → min x (read m + at table (place count m q)) ≡ least_sum count table read q (m + 1)
-  sum_more m x e = rw add-one (ap (λ (k : ℕ). min k (read m + at table (place count m q))) e)
-
   pub sum_low : (m : ℕ) → least_sum count table read q m ≤ read q
   sum_low zero = omega arith
   sum_low (suc m) = omega (arith, sum_low m)
@@ -55,10 +49,3 @@ sum_same count table read read' q (suc m) h k same =
     let before = sum_same count table read read' q m h (omega arith) same in
     let here = same m k in
     omega arith
-
--- a turn of the round: the row is lowered from node v
-pub round_more : (first table row row' : List ℕ) (w v : ℕ) → length row ≡ w → ((q : ℕ) → q < w → at row q ≡ least_sum w table (at first) q v)
-    → Rewritten (λ q. min (at row q) (at first v + at table (place (length row) v q))) row row' (length row)
-    → (q : ℕ) → q < w → at row' q ≡ least_sum w table (at first) q (v + 1)
-round_more first table row row' w v long sums r q h =
-    r.new q (omega arith) ∙ ap (λ (k : ℕ). min (at row q) (at first v + at table (place k v q))) long ∙ sum_more w table (at first) q v (at row q) (sums q h)

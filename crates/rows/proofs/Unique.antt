@@ -1,5 +1,4 @@
 -- The contract of the rows leaves no choice: the answer and every entry are fixed by the inputs. Assumes nothing.
-use mathlib.Core.Bool.{Bool, true, false}
 use mathlib.Core.Logic.{◌⊎◌, inl, inr}
 use mathlib.Core.Path.{◌≡◌, refl, sym, ap, ◌∙◌}
 use mathlib.Core.List.{List}
@@ -11,6 +10,8 @@ use lib.Dec.{eqb}
 use lib.ListN.{length}
 use lib.Seq.{get_or-drop, ext_get_or}
 use Rattle.refusals.specs.Telling.{pick}
+use Rattle.std.specs.Prelude.{Result, Ok, Err}
+use Rattle.trees.specs.declared.Unfit.{Unfit}
 use Rattle.trees.specs.Tree.{at}
 use Rattle.tables.specs.Rules.{place}
 use Rattle.rows.specs.Rows.{read_node, read_entry, PathRows, Fits, Filled, Fills}
@@ -64,9 +65,9 @@ module _ {count n : ℕ} {children_r children_s target table before : List ℕ} 
       ])
 
 module _ (count n : ℕ) (children_r children_s target table before : List ℕ) where
-  pub fills_unique : (r r' : Bool) (after after' : List ℕ) → Fills count n children_r children_s target table before r after
+  pub fills_unique : (r r' : Result Unit Unfit) (after after' : List ℕ) → Fills count n children_r children_s target table before r after
       → Fills count n children_r children_s target table before r' after' → (r ≡ r') × (after ≡ after')
-  fills_unique true true after after' (fits, filled) (fits', filled') = (refl, filled_unique fits filled filled')
-  fills_unique true false after after' (fits, filled) (unfit, kept) = absurd (unfit fits)
-  fills_unique false true after after' (unfit, kept) (fits, filled) = absurd (unfit fits)
-  fills_unique false false after after' (unfit, kept) (unfit', kept') = (refl, kept ∙ sym kept')
+  fills_unique (Ok _) (Ok _) after after' (fits, filled) (fits', filled') = (refl, filled_unique fits filled filled')
+  fills_unique (Ok _) (Err _) after after' (fits, filled) (unfit, kept) = absurd (unfit fits)
+  fills_unique (Err _) (Ok _) after after' (unfit, kept) (fits, filled) = absurd (unfit fits)
+  fills_unique (Err _) (Err _) after after' (unfit, kept) (unfit', kept') = (refl, kept ∙ sym kept')

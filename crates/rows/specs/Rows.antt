@@ -1,9 +1,10 @@
 -- The rows of a target, and what filling them promises. Row i, entry q, stands at i * count + q; it is about the series that make the target's
 -- first i letters and then the word of node q. Numbers only. Assumes nothing: these are definitions.
-use Rattle.std.specs.Prelude.{Bool, true, false, ◌⊎◌, ◌≡◌, List, ℕ, suc, ◌+◌, ◌-◌, ◌*◌, ◌≤◌, ◌<◌, eqb, length, drop}
+use Rattle.std.specs.Prelude.{◌⊎◌, ◌≡◌, List, ℕ, suc, ◌+◌, ◌-◌, ◌*◌, ◌≤◌, ◌<◌, eqb, length, drop, Result, Ok, Err}
 use Rattle.refusals.specs.Telling.{pick}
 use Rattle.limits.specs.Limits.{most_letters, most_factors, most_states}
 use Rattle.trees.specs.Tree.{at}
+use Rattle.trees.specs.declared.Unfit.{Unfit}
 use Rattle.trees.specs.Bounds.{AllAtMost}
 use Rattle.tables.specs.Rules.{place}
 
@@ -47,8 +48,8 @@ pub record Filled (count n : ℕ) (children_r children_s target table before aft
   pub kept : drop (suc (length target) * count) after ≡ drop (suc (length target) * count) before
 
 -- Where the inputs fit the rows are filled; else nothing changes, and the answer says so.
-abbrev pub Fills : ℕ → ℕ → List ℕ → List ℕ → List ℕ → List ℕ → List ℕ → Bool → List ℕ → Type 0
-Fills count n children_r children_s target table before true after =
+abbrev pub Fills : ℕ → ℕ → List ℕ → List ℕ → List ℕ → List ℕ → List ℕ → Result Unit Unfit → List ℕ → Type 0
+Fills count n children_r children_s target table before (Ok _) after =
     Fits count n children_r children_s target table before × Filled count n children_r children_s target table before after
-Fills count n children_r children_s target table before false after =
+Fills count n children_r children_s target table before (Err _) after =
     (Fits count n children_r children_s target table before → ⊥) × (after ≡ before)

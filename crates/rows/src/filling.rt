@@ -9,8 +9,7 @@ ghost use Rattle.tables.specs.Rules.{place};
 ghost use Rattle.rows.specs.Rows.{Fits, Filled};
 ghost use Rattle.rows.specs.Rounds.{Rewritten, Lowered, Round, read_at, RoundFits, RowFits, NextRow};
 
-use slices::widening::wide;
-use trees::entries::lesser;
+use trees::SuffixTree;
 use words::Factors;
 
 // The row's entry at v's child, or n + 1 where v has none.
@@ -24,7 +23,7 @@ fn read_entry(row: &[u16], children: &[u16], n: Factors, v: usize) -> u16
     if child == 0 {
         return n.0 + 1;
     }
-    row[wide(child)]
+    row[usize::from(child)]
 }
 
 // Reads a letter: what the next row begins with, at each node.
@@ -35,23 +34,8 @@ fn read_row(row: &[u16], children: &[u16], n: Factors, first: &mut [u16])
     requires by_index { (p : ℕ) → p < length row.now → at children.now p < length row.now }
     ensures { Rewritten (read_at n.0 children.now (at row.now)) first.old first.new (length row.now) }
 {
-    let mut v = 0;
-    while v < row.len() {
+    for v in 0..row.len() {
         first[v] = read_entry(row, children, n, v);
-        v += 1;
-    }
-}
-
-// Copies the first `count` entries.
-fn copy_row(from: &[u16], count: usize, to: &mut [u16])
-    requires count_in_bounds { count ≤ length from.now }
-    requires count_in_bounds_2 { count ≤ length to.old }
-    ensures { Rewritten (at from.now) to.old to.new count }
-{
-    let mut q = 0;
-    while q < count {
-        to[q] = from[q];
-        q += 1;
     }
 }
 
@@ -63,10 +47,8 @@ fn lower_row(row: &mut [u16], k: u16, from: &[u16])
     requires at_most { AtMost (most_factors + 1) from.now (length row.old) }
     ensures { Lowered (λ q. k + at from.now q) row.old row.new }
 {
-    let mut q = 0;
-    while q < row.len() {
-        row[q] = lesser(row[q], k + from[q]);
-        q += 1;
+    for (q, x) in row.iter_mut().enumerate() {
+        *x = (*x).min(k + from[q]);
     }
 }
 
@@ -91,11 +73,9 @@ fn round(first: &[u16], n: Factors, table: &[u16], row: &mut [u16])
     requires { RoundFits n.0 first.now table.now (length row.old) }
     ensures { Round first.now table.now (length row.old) row.new }
 {
-    copy_row(first, row.len(), row);
-    let mut v = 0;
-    while v < row.len() {
+    row.copy_from_slice(&first[..row.len()]);
+    for v in 0..row.len() {
         lower_from(first, n, v, table, row);
-        v += 1;
     }
 }
 
@@ -122,51 +102,44 @@ fn next_row(
     round(first, n, table, &mut rows[middle..end]);
 }
 
-// Makes row i + 1 by letter i of the target: 82 is R, and any other byte is taken for S.
+// Makes row i + 1 by letter i of the target: `b'R'` is R, and any other byte is taken for S.
 fn read_letter(
     letter: u8,
-    children_r: &[u16],
-    children_s: &[u16],
-    count: usize,
+    tree: &SuffixTree,
     n: Factors,
     table: &[u16],
     rows: &mut [u16],
     i: usize,
     first: &mut [u16],
 )
-    requires row_fits { RowFits count n.0 children_r.now table.now i rows.old }
-    requires row_fits_2 { RowFits count n.0 children_s.now table.now i rows.old }
-    requires count_in_bounds { count ≤ length first.old }
-    ensures next_row { NextRow count n.0 (pick (eqb letter 82) children_r.now children_s.now) table.now i rows.old rows.new }
-    ensures rewritten { Rewritten (read_at n.0 (pick (eqb letter 82) children_r.now children_s.now) (λ p. at rows.old (place count i p))) first.old first.new count }
+    requires row_fits { RowFits tree.now.count n.0 tree.now.children_r.now table.now i rows.old }
+    requires row_fits_2 { RowFits tree.now.count n.0 tree.now.children_s.now table.now i rows.old }
+    requires count_in_bounds { tree.now.count ≤ length first.old }
+    ensures next_row { NextRow tree.now.count n.0 (pick (eqb letter 82) tree.now.children_r.now tree.now.children_s.now) table.now i rows.old rows.new }
+    ensures rewritten { Rewritten (read_at n.0 (pick (eqb letter 82) tree.now.children_r.now tree.now.children_s.now)
+        (λ p. at rows.old (place tree.now.count i p))) first.old first.new tree.now.count }
 {
-    if letter == 82 {
-        next_row(children_r, count, n, table, rows, i, first);
-        return;
+    if letter == b'R' {
+        next_row(tree.children_r, tree.count, n, table, rows, i, first);
+    } else {
+        next_row(tree.children_s, tree.count, n, table, rows, i, first);
     }
-    next_row(children_s, count, n, table, rows, i, first);
 }
 
 // Fills the rows of the target, from the table's row of the empty word on.
 pub(crate) fn fill_rows(
     target: &[u8],
-    count: usize,
-    children_r: &[u16],
-    children_s: &[u16],
+    tree: &SuffixTree,
     n: Factors,
     table: &[u16],
     rows: &mut [u16],
 )
-    requires { Fits count n.0 children_r.now children_s.now target.now table.now rows.old }
-    ensures { Filled count n.0 children_r.now children_s.now target.now table.now rows.old rows.new }
+    requires { Fits tree.now.count n.0 tree.now.children_r.now tree.now.children_s.now target.now table.now rows.old }
+    ensures { Filled tree.now.count n.0 tree.now.children_r.now tree.now.children_s.now target.now table.now rows.old rows.new }
 {
-    copy_row(table, count, rows);
+    rows[..tree.count].copy_from_slice(&table[..tree.count]);
     let mut first = [0u16; limits::STATES_ROOM];
-    let mut i = 0;
-    while i < target.len() {
-        read_letter(
-            target[i], children_r, children_s, count, n, table, rows, i, &mut first,
-        );
-        i += 1;
+    for (i, letter) in target.iter().enumerate() {
+        read_letter(*letter, tree, n, table, rows, i, &mut first);
     }
 }

@@ -8,24 +8,24 @@ ghost use Rattle.rows.specs.Rows.{Fills};
 
 use crate::filling::fill_rows;
 use crate::fitting::fits;
+use trees::{SuffixTree, Unfit};
 use words::Factors;
 
 // Fills the rows of the target, one for each of its letters and one before them, each with an entry for each of `count` nodes: from a table of pairs
-// that is filled up to the bound n, and the children of the tree's nodes. Where the inputs do not fit nothing changes, and the answer is false.
+// that is filled up to the bound n, and the children of the tree's nodes. Where the inputs do not fit nothing changes.
 pub fn fill(
     target: &[u8],
-    count: usize,
-    children_r: &[u16],
-    children_s: &[u16],
+    tree: &SuffixTree,
     n: Factors,
     table: &[u16],
     rows: &mut [u16],
-) -> bool
-    ensures { Fills count n.0 children_r.now children_s.now target.now table.now rows.old result rows.new }
+) -> Result<(), Unfit>
+    ensures { Fills tree.now.count n.0 tree.now.children_r.now tree.now.children_s.now target.now table.now rows.old result rows.new }
 {
-    if fits(target, count, children_r, children_s, n, table, rows) {
-        fill_rows(target, count, children_r, children_s, n, table, rows);
-        return true;
+    if fits(target, tree, n, table, rows) {
+        fill_rows(target, tree, n, table, rows);
+        Ok(())
+    } else {
+        Err(Unfit)
     }
-    false
 }

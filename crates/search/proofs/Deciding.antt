@@ -7,7 +7,10 @@ use mathlib.Core.List.{List}
 use Prim.Native.Nat.{ℕ, ◌*◌, ◌≤◌, ◌<◌}
 use native.Mathlib.Omega.{arith}
 use lib.ListN.{length, take, drop}
+use Rattle.std.specs.Prelude.{None, Result, Ok, Err}
 use Rattle.words.specs.Word.{Word}
+use Rattle.words.specs.declared.Factors.{Factors}
+use Rattle.trees.specs.declared.Unfit.{Unfit}
 use Rattle.words.specs.Bytes.{word}
 use Rattle.products.specs.Product.{MemberRight, plain}
 use Rattle.products.specs.State.{LeastLead}
@@ -22,9 +25,6 @@ use Rattle.derivations.proofs.Answer.{attained, derived_right, none_right}
 use Rattle.search.specs.Search.{Lent, used, Posed}
 use Rattle.witness.specs.Witness.{Spells, Fits, Derivable, Writes}
 use Rattle.search.specs.Answering.{of_written, Tabulated, Answered}
-use Rattle.search.specs.declared.Found.TheVariants.{None}
-use Rattle.witness.specs.declared.Written.{Written}
-use Rattle.witness.specs.declared.Written.TheVariants.{Series, Unfit}
 use Rattle.search.proofs.SameRows.{path_same}
 use Rattle.search.proofs.Laid.{Laid, laid_append}
 
@@ -89,32 +89,32 @@ module _ {count : ℕ} {letters rests children_r children_s wholes target : List
         subst (MemberRight (plain gens) (word target) n (take k after)) (firsts_length (parts_in w) (weight_in w) spells.firsts ∙ spells.counts)
         (derived_right q (take k after) spells.firsts (omega (arith, spells.counts)))
 
-    pub written_answered : (written : Written) {second witness : List ℕ} → last_entry ≤ n
+    pub written_answered : (written : Result Factors Unfit) {second witness : List ℕ} → last_entry ≤ n
         → drop (used count (length target)) counts ≡ drop (used count (length target)) lent.first
         → Writes w n written lent.second lent.witness second witness
         → Answered count letters rests children_r children_s wholes target n (of_written written) lent
         (record { first = counts; second = second; witness = witness })
-    written_answered (Series k) within kept (fits, few, spells, second_kept) =
+    written_answered (Ok k) within kept (fits, few, spells, second_kept) =
         record {
           answers = λ gens words posed. (spelled_right (query posed) few spells, spells.rest);
           first = kept;
           second = second_kept;
-          unwritten = λ e. let z : ◌≡◌ {A = ℕ} 0 1 = cc in absurd (omega arith);
+          unwritten = λ e. absurd e;
         }
-    written_answered Unfit within kept (unfit, same, second_kept) =
+    written_answered (Err e) within kept (unfit, same, second_kept) =
         record {
           answers = λ gens words posed. unfit witness_fits (derivable posed within);
           first = kept;
           second = second_kept;
-          unwritten = λ e. same;
+          unwritten = λ _. same;
         }
 
-  pub none_answered : n < last_entry → Answered count letters rests children_r children_s wholes target n None lent lent
+  pub none_answered : n < last_entry → Answered count letters rests children_r children_s wholes target n (Ok None) lent lent
   none_answered above =
       let laid = laid_append count (length target) lent.first lent.second (omega (arith, tabulated.room.first)) in
       record {
         answers = λ gens words posed. (none_right (query _ laid posed) (omega (arith, last_weight _ laid posed)), refl);
         first = refl;
         second = refl;
-        unwritten = λ e. refl;
+        unwritten = λ e. absurd e;
       }

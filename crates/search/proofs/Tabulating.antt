@@ -1,11 +1,10 @@
 -- The table and then the rows are filled, and what is known then.
 --     rows_used      there is room for the rows where there is for the entries that are used
---     tabulated      what the answer asks for
---     searched       and what it answers is what the search promises
---     unsearched     where the inputs do not fit nothing changes
+--     searched       what is answered then is what the search promises
 -- Assumes nothing.
-use mathlib.Core.Bool.{Bool}
-use mathlib.Core.Path.{refl, ◌∙◌}
+use Rattle.std.specs.Prelude.{Result}
+use Rattle.trees.specs.declared.Unfit.{Unfit}
+use mathlib.Core.Path.{◌∙◌}
 use mathlib.Core.List.{List}
 use Prim.Native.Nat.{ℕ, zero, suc, ◌*◌, ◌≤◌}
 use native.Mathlib.Nat.{mul-le-mul_right}
@@ -16,10 +15,8 @@ use Rattle.trees.proofs.Remaining.{drop_later}
 use Rattle.tables.specs.Filling.{Filled as TableFilled}
 use Rattle.rows.specs.Rows.{Filled as RowsFilled, Fills as FillsRows}
 use Rattle.rows.proofs.FilledFits.{filled_fits, rows_filled}
-use Rattle.search.specs.Search.{Lent, used, Fits, Searches}
-use Rattle.search.specs.Answering.{Tabulated, Answered}
-use Rattle.search.specs.declared.Found.{Found}
-use Rattle.search.specs.declared.Found.TheVariants.{Unfit}
+use Rattle.search.specs.Search.{Lent, used, Fits, Found, Searches}
+use Rattle.search.specs.Answering.{Answered}
 
 pub rows_used : (count t : ℕ) → suc t * count ≤ used count t
 rows_used zero t = omega arith
@@ -32,28 +29,11 @@ tabled table rows lent = record { first = table; second = rows; witness = lent.w
 module _ {count n : ℕ} {letters rests children_r children_s wholes target : List ℕ} {lent : Lent} where
   module _ (fits : Fits count letters rests children_r children_s wholes target n lent) {table : List ℕ}
       (filled : TableFilled measure count letters rests children_r children_s wholes n lent.first table)
-      (r : Bool) {rows : List ℕ} (fills : FillsRows count n children_r children_s target table lent.second r rows) where
+      (r : Result Unit Unfit) {rows : List ℕ} (fills : FillsRows count n children_r children_s target table lent.second r rows) where
     by_rows : RowsFilled count n children_r children_s target table lent.second rows
     by_rows =
         rows_filled r fills
         (filled_fits target lent.second fits.table filled fits.room.few fits.room.short (omega (arith, rows_used count (length target), fits.room.second)))
-
-    pub tabulated : Tabulated count letters rests children_r children_s wholes target n (tabled table rows lent)
-    tabulated =
-        record {
-          some = fits.table.shape.some;
-          room = record {
-            few = fits.room.few;
-            short = fits.room.short;
-            numbers = fits.room.numbers;
-            witness = fits.room.witness;
-            first = omega (arith, filled.long, fits.room.first);
-            second = omega (arith, by_rows.long, fits.room.second);
-          };
-          bound = fits.table.bound;
-          exact = λ gens words posed. filled.exact gens words posed.normal posed.tree posed.size;
-          rows = by_rows.right;
-        }
 
     pub searched : {found : Found} {after : Lent} → Answered count letters rests children_r children_s wholes target n found (tabled table rows lent) after
         → Searches count letters rests children_r children_s wholes target n found lent after
@@ -70,15 +50,3 @@ module _ {count n : ℕ} {letters rests children_r children_s wholes target : Li
           unfit = λ unfit. absurd (unfit fits);
           unwritten = answered.unwritten;
         }
-
-pub unsearched : {count n : ℕ} {letters rests children_r children_s wholes target : List ℕ} {lent : Lent}
-    → (Fits count letters rests children_r children_s wholes target n lent → ⊥)
-    → Searches count letters rests children_r children_s wholes target n Unfit lent lent
-unsearched unfit =
-    record {
-      answers = λ fits. absurd (unfit fits);
-      first = refl;
-      second = refl;
-      unfit = λ _. (refl, refl);
-      unwritten = λ _. refl;
-    }

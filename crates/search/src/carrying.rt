@@ -7,9 +7,5 @@ pub(crate) fn carry(rows: &[u16], table: &mut [u16], at: usize)
     requires { at + length rows.now ≤ length table.old }
     ensures { table.new ≡ paste table.old at rows.now (length rows.now) }
 {
-    let mut i = 0;
-    while i < rows.len() {
-        table[at + i] = rows[i];
-        i += 1;
-    }
+    table[at..at + rows.len()].copy_from_slice(rows);
 }

@@ -18,24 +18,10 @@ pub(crate) fn has_room(
 ) -> bool
     ensures { Tells result (Room count n.0 letters generators first second witness) }
 {
-    if limits::STATES_ROOM < count {
-        return false;
-    }
-    if limits::WORD_LETTERS < letters {
-        return false;
-    }
-    if NUMBERS < generators {
-        return false;
-    }
-    if witness < n.0 as usize {
-        return false;
-    }
-    let used = (count + letters) * count;
-    if first < used {
-        return false;
-    }
-    if second < used {
-        return false;
-    }
-    true
+    count <= limits::STATES_ROOM
+        && letters <= limits::WORD_LETTERS
+        && generators <= NUMBERS
+        && n.0 as usize <= witness
+        && (count + letters) * count <= first
+        && (count + letters) * count <= second
 }

@@ -1,9 +1,8 @@
 -- The questions at the door that concern sizes. Document 01, "The questions at the door". Assumes nothing: these are definitions.
 use Rattle.std.specs.Prelude.{[], ◌∷◌, ℕ, ◌+◌, ◌*◌, leb}
 use Rattle.limits.specs.Limits.{most_factors}
-use Rattle.refusals.specs.Questions.{asks, first_no, question12, question14}
+use Rattle.refusals.specs.Questions.{Asked, asks, first_no, question12, question14}
 use Rattle.refusals.specs.declared.Refusal.TheVariants.{BoundTooLarge, TableTooShort}
-use Rattle.refusals.specs.declared.Asked.{Asked}
 
 -- 01: "m is the sum of the generators' normal form lengths, t the target's normal form length, and q = m + 2t + 1."
 abbrev pub side : ℕ → ℕ → ℕ

@@ -2,21 +2,18 @@
 // zeroed. Both tables are asked about and zeroed by the same functions.
 #![tactic(auto)]
 
-mod zeroing;
-
 ghost use Rattle.std.specs.Prelude.{◌≡◌, ◌*◌};
 ghost use Rattle.refusals.specs.Questions.{question12};
 ghost use Rattle.sizes.specs.Questions.{side, question15, of_bound, of_tables, of_sizes};
 ghost use Rattle.sizes.specs.Zeroing.{Zeroes};
 
-use crate::zeroing::zero;
-use words::{Asked, Factors, Letters, Refusal};
+use words::{Factors, Letters, Refusal};
 
 // The side of the tables that a verdict asks for, from m and t.
 pub fn side(m: Letters, t: Letters) -> usize
     ensures { result ≡ side m.0 t.0 }
 {
-    m.0 as usize + 2 * (t.0 as usize) + 1
+    usize::from(m.0) + 2 * usize::from(t.0) + 1
 }
 
 // How many entries each table must have.
@@ -28,46 +25,44 @@ fn square(m: Letters, t: Letters) -> usize
 }
 
 // Question 12, of the length of a target's normal form.
-pub fn of_form(t: Letters) -> Asked
+pub fn of_form(t: Letters) -> Result<(), Refusal>
     ensures { result ≡ question12 t.0 }
 {
     if limits::FORM_LETTERS < t.0 {
-        return Asked::Refused(Refusal::NormalFormTooLong);
+        return Err(Refusal::NormalFormTooLong);
     }
-    Asked::Passed
+    Ok(())
 }
 
 // Questions 13 and 14, where `witness` is the length of the lent witness.
-pub fn of_bound(n: Factors, witness: usize) -> Asked
+pub fn of_bound(n: Factors, witness: usize) -> Result<(), Refusal>
     ensures { result ≡ of_bound n.0 witness }
 {
     if limits::BOUND < n.0 {
-        return Asked::Refused(Refusal::BoundTooLarge);
+        return Err(Refusal::BoundTooLarge);
     }
-    if witness < n.0 as usize {
-        return Asked::Refused(Refusal::OutputTooShort);
+    if witness < usize::from(n.0) {
+        return Err(Refusal::OutputTooShort);
     }
-    Asked::Passed
+    Ok(())
 }
 
 // Question 15 of one table, by its length.
-fn of_table(m: Letters, t: Letters, table: usize) -> Asked
+fn of_table(m: Letters, t: Letters, table: usize) -> Result<(), Refusal>
     ensures { result ≡ question15 (side m.0 t.0) table }
 {
     if table < square(m, t) {
-        return Asked::Refused(Refusal::TableTooShort);
+        return Err(Refusal::TableTooShort);
     }
-    Asked::Passed
+    Ok(())
 }
 
 // Question 15, where `first` and `second` are the lengths of the lent tables.
-pub fn of_tables(m: Letters, t: Letters, first: usize, second: usize) -> Asked
+pub fn of_tables(m: Letters, t: Letters, first: usize, second: usize) -> Result<(), Refusal>
     ensures { result ≡ of_tables (side m.0 t.0) first second }
 {
-    match of_table(m, t, first) {
-        Asked::Refused(refusal) => Asked::Refused(refusal),
-        Asked::Passed => of_table(m, t, second),
-    }
+    of_table(m, t, first)?;
+    of_table(m, t, second)
 }
 
 // Questions 12 to 15. `first`, `second` and `witness` are the lengths of the lent slices.
@@ -78,16 +73,12 @@ pub fn of_sizes(
     first: usize,
     second: usize,
     witness: usize,
-) -> Asked
+) -> Result<(), Refusal>
     ensures { result ≡ of_sizes m.0 t.0 n.0 first second witness }
 {
-    match of_form(t) {
-        Asked::Refused(refusal) => Asked::Refused(refusal),
-        Asked::Passed => match of_bound(n, witness) {
-            Asked::Refused(refusal) => Asked::Refused(refusal),
-            Asked::Passed => of_tables(m, t, first, second),
-        },
-    }
+    of_form(t)?;
+    of_bound(n, witness)?;
+    of_tables(m, t, first, second)
 }
 
 // The first q * q entries of a table become 0, and the others remain; a table that has fewer is left as it is.
@@ -96,6 +87,6 @@ pub fn zero_table(table: &mut [u16], m: Letters, t: Letters)
 {
     let count = square(m, t);
     if count <= table.len() {
-        zero(table, count);
+        table[..count].fill(0);
     }
 }

@@ -1,12 +1,12 @@
 -- A slice into which another is copied, a slice whose front is rewritten and grows, and a part of one. Assumes nothing.
-use mathlib.Core.Bool.{Bool, true, false}
+use mathlib.Core.Bool.{Bool}
 use mathlib.Core.Path.{◌≡◌, sym, ap, ap₂, ◌∙◌}
 use mathlib.Core.List.{List, [], ◌∷◌, ◌++◌, append_assoc}
 use Prim.Native.Nat.{ℕ, suc, ◌+◌, ◌≤◌, ◌<◌}
 use native.Mathlib.Nat.{zero-add}
 use native.Mathlib.Numerals.{add-one}
 use native.Mathlib.Omega.{arith}
-use borrow.Author.Tests.{le-leb, lt-leb}
+use borrow.Author.Tests.{le-leb}
 use lib.ListN.{length, take, drop, set, get_or, length-append}
 use lib.Seq.{paste, slice, take_at, take_all, take-length, drop_at, drop-append-add, drop-drop, drop-cons, set_at, append_snoc}
 use Rattle.refusals.specs.Telling.{pick}
@@ -18,12 +18,6 @@ module _ (new before : List ℕ) (at : ℕ) where
   -- what the slice holds, by the test of room
   abbrev held : Bool → List ℕ
   held room = pick room (paste before at new (length new)) before
-
-  pub pastes_all : {after : List ℕ} → at + length new ≤ length before → after ≡ paste before at new (length new) → Pastes new at before true after
-  pastes_all h e = let test = sym (le-leb (at + length new) (length before) h) in record { answer = test; slice = e ∙ ap held test }
-
-  pub pastes_nothing : length before < at + length new → Pastes new at before false before
-  pastes_nothing h = let test = sym (lt-leb (at + length new) (length before) h) in record { answer = test; slice = ap held test }
 
 pub pasted : {new before after : List ℕ} {at : ℕ} {r : Bool} → Pastes new at before r after → at + length new ≤ length before
     → after ≡ paste before at new (length new)

@@ -1,5 +1,4 @@
-// Slices that are lent: the copy of one into another, and the numbers by which their places are told.
+// Slices that are lent: the copy of one into another.
 #![tactic(auto)]
 
 pub mod copying;
-pub mod widening;

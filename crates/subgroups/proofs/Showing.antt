@@ -9,15 +9,15 @@ use denote.Ref.{Bor}
 use lib.Dec.{leb, ltb}
 use lib.ListN.{length}
 use borrow.Author.Tests.{lt-ltb, le-ltb, leb-true}
+use Rattle.std.specs.Prelude.{Result, Err, Ok}
+use Rattle.lists.specs.declared.Lengths.{Lengths}
 use Rattle.limits.specs.Limits.{most_signed_generators, most_of_signed_list, inverses_slice}
 use Rattle.words.specs.Word.{Word}
 use Rattle.words.specs.Bytes.{word}
 use Rattle.refusals.specs.Telling.{pick}
-use Rattle.refusals.specs.Questions.{first_no, question14}
+use Rattle.refusals.specs.Questions.{Asked, passed, first_no, question14}
 use Rattle.refusals.specs.declared.Refusal.{Refusal}
 use Rattle.refusals.specs.declared.Refusal.TheVariants.{OutputTooShort}
-use Rattle.refusals.specs.declared.Asked.{Asked}
-use Rattle.refusals.specs.declared.Asked.TheVariants.{Passed, Refused}
 use Rattle.refusals.proofs.Asking.{asks_passed, passed_first, refused_first, first_no_one, first_no_head, first_no_tail}
 use Rattle.products.specs.Product.{generators, inverse_mark, inverses}
 use Rattle.products.proofs.Generators.{generators_length}
@@ -25,8 +25,6 @@ use Rattle.lists.specs.Questions.{of_list, question11}
 use Rattle.lists.specs.NormalList.{total}
 use Rattle.lists.specs.Reducing.{Checked}
 use Rattle.lists.specs.Calls.{ReducesSigned}
-use Rattle.lists.specs.declared.Signed.{Signed}
-use Rattle.lists.specs.declared.Signed.TheVariants.{Refused as Signed-as-Refused}
 use Rattle.lists.proofs.Passing.{ListPassed, list_passed}
 use Rattle.lists.proofs.Rising.{rising_of}
 use Rattle.lists.proofs.ShortForms.{inverses_short, total_short}
@@ -54,42 +52,42 @@ module _ (bytes ends : List ℕ) (room number : ℕ) where
   behind = question11 gens ∷ question14 inverses_slice room ∷ []
 
   -- a question that is answered no shows nothing
-  pub nothing_shown : {refusal : Refusal} → of_factor bytes ends room ≡ Refused refusal → part_of bytes ends room number ≡ nothing
+  pub nothing_shown : {refusal : Refusal} → of_factor bytes ends room ≡ Err refusal → part_of bytes ends room number ≡ nothing
   nothing_shown e = ap (λ (a : Asked). part_by a bytes ends number) e
 
-  pub factor_shown : of_factor bytes ends room ≡ Passed → part_of bytes ends room number ≡ factor_part gens ends number
+  pub factor_shown : of_factor bytes ends room ≡ passed → part_of bytes ends room number ≡ factor_part gens ends number
   factor_shown e = ap (λ (a : Asked). part_by a bytes ends number) e
 
   -- the questions, one by one
-  pub factor_asked : Checked bytes ends → question11 gens ≡ Passed → of_factor bytes ends room ≡ question14 inverses_slice room
+  pub factor_asked : Checked bytes ends → question11 gens ≡ passed → of_factor bytes ends room ≡ question14 inverses_slice room
   factor_asked checked passes =
       passed_first (of_list bytes ends []) behind checked ∙ passed_first (question11 gens) (question14 inverses_slice room ∷ []) passes
       ∙ first_no_one (question14 inverses_slice room)
 
   -- a list that is not reduced is refused by its own questions
-  pub list_refused : {before before_ends after after_ends : List ℕ} {r : Signed} {refusal : Refusal}
+  pub list_refused : {before before_ends after after_ends : List ℕ} {r : Result Lengths Refusal} {refusal : Refusal}
       → ReducesSigned bytes ends before before_ends r after after_ends → most_of_signed_list ≤ length before → most_signed_generators ≤ length before_ends
-      → r ≡ Signed-as-Refused refusal → part_of bytes ends room number ≡ nothing
+      → r ≡ Err refusal → part_of bytes ends room number ≡ nothing
   list_refused {before} {before_ends} {after} {after_ends} {r} h enough enough_ends e = by (of_list bytes ends []) refl
     where
       by : (asked : Asked) → of_list bytes ends [] ≡ asked → part_of bytes ends room number ≡ nothing
-      by Passed checked =
+      by (Ok _) checked =
           nothing_shown
           (passed_first (of_list bytes ends []) behind checked
           ∙ refused_first (question11 gens) (question14 inverses_slice room ∷ [])
           (signed_too_long bytes ends before before_ends after after_ends r h checked enough enough_ends e))
-      by (Refused other) refused = nothing_shown (refused_first (of_list bytes ends []) behind refused)
+      by (Err other) refused = nothing_shown (refused_first (of_list bytes ends []) behind refused)
 
   -- ---- what it says that they have passed
 
-  module _ (passed : of_factor bytes ends room ≡ Passed) where
+  module _ (all_passed : of_factor bytes ends room ≡ passed) where
     list_right : ListPassed bytes ends []
-    list_right = list_passed bytes ends [] (first_no_head (of_list bytes ends []) behind passed)
+    list_right = list_passed bytes ends [] (first_no_head (of_list bytes ends []) behind all_passed)
 
-    after_list : first_no behind ≡ Passed
-    after_list = first_no_tail (of_list bytes ends []) behind passed
+    after_list : first_no behind ≡ passed
+    after_list = first_no_tail (of_list bytes ends []) behind all_passed
 
-    none_long : question11 gens ≡ Passed
+    none_long : question11 gens ≡ passed
     none_long = first_no_head (question11 gens) (question14 inverses_slice room ∷ []) after_list
 
     -- the inverses' forms have room
@@ -101,13 +99,13 @@ module _ (bytes ends : List ℕ) (room number : ℕ) where
         omega (arith, enough, inverses_short gens, total_short gens none_long, list_right.few, generators_length bytes 0 ends)
 
     pub shown_given : number < inverse_mark → number < length ends → part_of bytes ends room number ≡ given_part ends number
-    shown_given h k = factor_shown passed ∙ factor_given gens ends number h ∙ simp (lt-ltb number (length ends) k)
+    shown_given h k = factor_shown all_passed ∙ factor_given gens ends number h ∙ simp (lt-ltb number (length ends) k)
 
     pub shown_inverse : (i : ℕ) → number ≡ inverse_mark + i → i < length ends → part_of bytes ends room number ≡ inverse_part gens i
     shown_inverse i e k =
         let above : inverse_mark ≤ number = omega arith in
         let same : number - inverse_mark ≡ i = omega arith in
-        factor_shown passed ∙ factor_inverse gens ends number above ∙ rw same (simp (lt-ltb i (length ends) k))
+        factor_shown all_passed ∙ factor_inverse gens ends number above ∙ rw same (simp (lt-ltb i (length ends) k))
 
   -- ---- the part lies inside its slice
 
@@ -120,7 +118,7 @@ module _ (bytes ends : List ℕ) (room number : ℕ) where
   pub part_inside : Inside (part_of bytes ends room number)
   part_inside = by (of_factor bytes ends room) refl
     where
-      shown_inside : of_factor bytes ends room ≡ Passed → Inside (factor_part gens ends number)
+      shown_inside : of_factor bytes ends room ≡ passed → Inside (factor_part gens ends number)
       shown_inside passed =
           let right = list_right passed in
           let rising = rising_of 0 ends right.none_falls in
@@ -145,8 +143,8 @@ module _ (bytes ends : List ℕ) (room number : ℕ) where
           ]
 
       by : (asked : Asked) → of_factor bytes ends room ≡ asked → Inside (part_by asked bytes ends number)
-      by Passed passed = shown_inside passed
-      by (Refused refusal) refused = (omega arith, omega arith)
+      by (Ok _) passed = shown_inside passed
+      by (Err refusal) refused = (omega arith, omega arith)
 
 -- ---- what the part spells
 

@@ -8,15 +8,14 @@ use native.Mathlib.Omega.{arith}
 use borrow.Author.Tests.{lt-ltb, le-ltb, le-leb, lt-leb}
 use lib.ListN.{length, take, drop, get_or, set, length-map, length-take, drop_of_length-le}
 use lib.Seq.{length-take-le, take-suc, take_all, take_at, drop_at, get_or-append-add, get_or-drop}
+use Rattle.std.specs.Prelude.{Some, None, Ok, Err}
 use Rattle.slices.specs.Slices.{overwritten}
 use Rattle.slices.proofs.Slices.{front_stored}
 use Rattle.words.specs.Word.{Word}
 use Rattle.products.specs.Product.{Factor, Each, plain, signed, inverse_mark, with_inverses}
 use Rattle.products.specs.Doubled.{signed_number}
 use Rattle.products.proofs.Doubled.{doubled_length, signed_none_of, signed_member_of}
-use Rattle.engine.specs.Calls.{VerdictRight}
-use Rattle.engine.specs.declared.Verdict.{Verdict}
-use Rattle.engine.specs.declared.Verdict.TheVariants.{Member, None, Refused}
+use Rattle.engine.specs.Calls.{Verdict, VerdictRight}
 use Rattle.subgroups.specs.Signing.{signed_byte, signed_front, signed_factors}
 
 -- ---- the first i entries of a slice are rewritten
@@ -79,7 +78,7 @@ module _ (gens : List Word) (few : length gens ≤ inverse_mark) (target : Word)
   -- a verdict by places is one by signed numbers, once its factors are signed
   pub verdict_signed : (r : Verdict) (before middle : List ℕ) → VerdictRight (plain (with_inverses gens)) target n r before middle
       → VerdictRight (signed gens) target n r before (signed_factors r (length gens) middle)
-  verdict_signed (Member count) before middle (right, rest) =
+  verdict_signed (Ok (Some count)) before middle (right, rest) =
       let k = count.0 in
       let found = take k middle in
       let inside = front_inside k middle right.counts in
@@ -90,5 +89,5 @@ module _ (gens : List Word) (few : length gens ≤ inverse_mark) (target : Word)
         rw (take_at (map (signed_byte (length gens)) found) (drop k middle) k long, same) (signed_member_of gens few target n found k right),
         rw (drop_at (map (signed_byte (length gens)) found) (drop k middle) k long) rest,
       )
-  verdict_signed None before middle (right, same) = (signed_none_of gens few target n right, same)
-  verdict_signed (Refused refusal) before middle right = right
+  verdict_signed (Ok None) before middle (right, same) = (signed_none_of gens few target n right, same)
+  verdict_signed (Err refusal) before middle right = right

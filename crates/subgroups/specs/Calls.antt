@@ -3,12 +3,11 @@ use Rattle.std.specs.Prelude.{◌≡◌, List, ℕ, length}
 use Rattle.words.specs.Word.{Word, nf}
 use Rattle.words.specs.Bytes.{word}
 use Rattle.words.specs.Calls.{written}
-use Rattle.refusals.specs.declared.Asked.{Asked}
+use Rattle.refusals.specs.Questions.{Asked}
 use Rattle.products.specs.Product.{generators, signed, inverses, with_inverses}
 use Rattle.lists.specs.NormalList.{total, normal_bytes}
 use Rattle.sizes.specs.Questions.{side}
-use Rattle.engine.specs.Calls.{Lent, Judged}
-use Rattle.engine.specs.declared.Verdict.{Verdict}
+use Rattle.engine.specs.Calls.{Verdict, Lent, Judged}
 use Rattle.subgroups.specs.Questions.{of_signed}
 
 -- By what the questions say: the verdict is right for the generators and their inverses as the plain one is for the generators. 02: "The caller lends a second

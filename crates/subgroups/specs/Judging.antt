@@ -2,13 +2,11 @@
 use Rattle.std.specs.Prelude.{◌≡◌, List, [], ◌∷◌, ℕ, ◌-◌, ◌≤◌, length, take, drop}
 use Rattle.limits.specs.Limits.{most_generators, inverses_slice}
 use Rattle.words.specs.Word.{Word, nf}
-use Rattle.refusals.specs.Questions.{first_no}
-use Rattle.refusals.specs.declared.Asked.{Asked}
+use Rattle.refusals.specs.Questions.{Asked, first_no}
 use Rattle.products.specs.Product.{inverses, with_inverses}
 use Rattle.lists.specs.Questions.{question11}
 use Rattle.lists.specs.NormalList.{total, normal_bytes, normal_ends}
-use Rattle.engine.specs.Calls.{Lent}
-use Rattle.engine.specs.declared.Verdict.{Verdict}
+use Rattle.engine.specs.Calls.{Verdict, Lent}
 use Rattle.subgroups.specs.Questions.{of_signed_sizes}
 use Rattle.subgroups.specs.Calls.{SignedJudged}
 

@@ -1,11 +1,10 @@
 -- The letters of a signed factor, as a part of the given slice or of the inverse slice. Document 02, M-103. Assumes nothing: these are definitions.
-use Rattle.std.specs.Prelude.{true, false, ◌≡◌, List, ◌∷◌, ℕ, suc, ◌+◌, ◌-◌, ◌≤◌, ◌<◌, ltb, length, take, drop, get_or}
+use Rattle.std.specs.Prelude.{Ok, Err, true, false, ◌≡◌, List, ◌∷◌, ℕ, suc, ◌+◌, ◌-◌, ◌≤◌, ◌<◌, ltb, length, take, drop, get_or}
 use Rattle.std.specs.Borrow.{Bor}
 use Rattle.words.specs.Word.{Word, nf, inverse}
 use Rattle.words.specs.Bytes.{word}
 use Rattle.refusals.specs.Telling.{pick}
-use Rattle.refusals.specs.declared.Asked.{Asked}
-use Rattle.refusals.specs.declared.Asked.TheVariants.{Passed, Refused}
+use Rattle.refusals.specs.Questions.{Asked, passed}
 use Rattle.products.specs.Product.{generators, generator, Factor, inverse_mark, unsigned, inverses}
 use Rattle.lists.specs.NormalList.{total, normal_bytes}
 use Rattle.subgroups.specs.Questions.{of_factor}
@@ -31,8 +30,8 @@ factor_part gens ends number =
 -- 02: "Which part it is follows from the list alone", and from the number; "If a question is answered no, or the number names no signed factor of the list", it
 -- is nothing.
 abbrev pub part_by : Asked → List ℕ → List ℕ → ℕ → Part
-part_by (Refused refusal) bytes ends number = nothing
-part_by Passed bytes ends number = factor_part (generators bytes ends) ends number
+part_by (Err refusal) bytes ends number = nothing
+part_by (Ok _) bytes ends number = factor_part (generators bytes ends) ends number
 
 abbrev pub part_of : List ℕ → List ℕ → ℕ → ℕ → Part
 part_of bytes ends inverses number = part_by (of_factor bytes ends inverses) bytes ends number
@@ -52,8 +51,8 @@ PartShown r given slice part = IsPart r (pick part.inverse slice given) part.sta
 -- normal form as long as the inverse slice holds what the engine wrote".
 pub record Shows (given : Bor (List ℕ)) (ends : List ℕ) (slice : Bor (List ℕ)) (number : ℕ) (r : Bor (List ℕ)) : Type 0 where
   pub part : PartShown r given slice (part_of given.now ends (length slice.now) number)
-  pub spells_given : of_factor given.now ends (length slice.now) ≡ Passed → Factor (generators given.now ends) number → number < inverse_mark
+  pub spells_given : of_factor given.now ends (length slice.now) ≡ passed → Factor (generators given.now ends) number → number < inverse_mark
       → word r.now ≡ generator (generators given.now ends) number
-  pub spells_inverse : of_factor given.now ends (length slice.now) ≡ Passed → (i : ℕ) → Factor (generators given.now ends) i → number ≡ inverse_mark + i
+  pub spells_inverse : of_factor given.now ends (length slice.now) ≡ passed → (i : ℕ) → Factor (generators given.now ends) i → number ≡ inverse_mark + i
       → take (total (inverses (generators given.now ends))) slice.now ≡ normal_bytes (inverses (generators given.now ends))
       → word r.now ≡ nf (inverse (generator (generators given.now ends) i))

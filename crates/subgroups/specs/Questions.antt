@@ -3,8 +3,7 @@ use Rattle.std.specs.Prelude.{List, [], ◌∷◌, ℕ, length}
 use Rattle.limits.specs.Limits.{inverses_slice}
 use Rattle.words.specs.Word.{nf}
 use Rattle.words.specs.Bytes.{word}
-use Rattle.refusals.specs.Questions.{first_no, question12, question14}
-use Rattle.refusals.specs.declared.Asked.{Asked}
+use Rattle.refusals.specs.Questions.{Asked, first_no, question12, question14}
 use Rattle.products.specs.Product.{generators, with_inverses}
 use Rattle.lists.specs.Questions.{of_list, question11}
 use Rattle.lists.specs.NormalList.{total}

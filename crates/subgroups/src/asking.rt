@@ -4,16 +4,16 @@ ghost use Rattle.refusals.specs.Questions.{question14};
 ghost use Rattle.limits.specs.Limits.{inverses_slice};
 ghost use Rattle.subgroups.specs.Questions.{of_signed_sizes};
 
-use words::{Asked, Factors, Letters, Refusal};
+use words::{Factors, Letters, Refusal};
 
 // Question 14 for the inverse slice, by its length.
-pub(crate) fn of_inverses(inverses: usize) -> Asked
+pub(crate) fn of_inverses(inverses: usize) -> Result<(), Refusal>
     ensures { result ≡ question14 inverses_slice inverses }
 {
     if inverses < limits::INVERSES_SLICE {
-        return Asked::Refused(Refusal::OutputTooShort);
+        return Err(Refusal::OutputTooShort);
     }
-    Asked::Passed
+    Ok(())
 }
 
 // Questions 12 to 15. `first`, `second`, `witness` and `inverses` are the lengths of the lent slices.
@@ -25,17 +25,11 @@ pub(crate) fn of_signed_sizes(
     second: usize,
     witness: usize,
     inverses: usize,
-) -> Asked
+) -> Result<(), Refusal>
     ensures { result ≡ of_signed_sizes m.0 t.0 n.0 first second witness inverses }
 {
-    match sizes::of_form(t) {
-        Asked::Refused(refusal) => Asked::Refused(refusal),
-        Asked::Passed => match sizes::of_bound(n, witness) {
-            Asked::Refused(refusal) => Asked::Refused(refusal),
-            Asked::Passed => match of_inverses(inverses) {
-                Asked::Refused(refusal) => Asked::Refused(refusal),
-                Asked::Passed => sizes::of_tables(m, t, first, second),
-            },
-        },
-    }
+    sizes::of_form(t)?;
+    sizes::of_bound(n, witness)?;
+    of_inverses(inverses)?;
+    sizes::of_tables(m, t, first, second)
 }

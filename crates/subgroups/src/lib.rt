@@ -10,12 +10,11 @@ ghost use Rattle.std.specs.Prelude.{◌≡◌};
 ghost use Rattle.subgroups.specs.Calls.{JudgesSigned};
 ghost use Rattle.subgroups.specs.Parts.{part_of, Shows};
 
-use engine::Verdict;
-use slices::widening::wide;
-use words::{Asked, Factors};
+use words::{Factors, Refusal};
 
-// Which letters a factor has: from `start` up to `end` of the inverses' or, where it is none, of the given ones.
-#[derive(Clone, Copy)]
+// Which letters a factor has: from `start` up to `end` of the inverses' or, where it is none, of the given ones. The flag is the number that C gets; an enum of
+// the two slices would say no more.
+#[derive(Clone, Copy, Debug, PartialEq, Eq)]
 pub struct Part {
     pub inverse: bool,
     pub start: u16,
@@ -34,18 +33,14 @@ pub fn judge(
     second: &mut [u16],
     witness: &mut [u8],
     inverses: &mut [u8],
-) -> Verdict
+) -> Result<Option<Factors>, Refusal>
     ensures { JudgesSigned bytes.now ends.now target.now n.0 result
         (record { first = first.old; second = second.old; witness = witness.old })
         (record { first = first.new; second = second.new; witness = witness.new })
         inverses.old inverses.new }
 {
-    match lists::of_list(bytes, ends, target) {
-        Asked::Refused(refusal) => Verdict::Refused(refusal),
-        Asked::Passed => {
-            judging::judge_list(bytes, ends, target, n, first, second, witness, inverses)
-        }
-    }
+    lists::of_list(bytes, ends, target)?;
+    judging::judge_list(bytes, ends, target, n, first, second, witness, inverses)
 }
 
 // Which part of the given letters or of the inverses' a signed number's factor is, where the inverse slice has `inverses` bytes. Where a question is answered
@@ -61,8 +56,8 @@ pub fn letters_of<'a>(given: &'a [u8], ends: &[u16], inverses: &'a [u8], number:
     ensures { Shows given.entry ends.now inverses.entry number result }
 {
     let part = part_of(given, ends, inverses.len(), number);
-    let start = wide(part.start);
-    let end = wide(part.end);
+    let start = usize::from(part.start);
+    let end = usize::from(part.end);
     if part.inverse {
         return &inverses[start..end];
     }

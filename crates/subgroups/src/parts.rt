@@ -8,8 +8,7 @@ ghost use Rattle.subgroups.specs.Ends.{DoubledEnds};
 use crate::Part;
 use crate::asking::of_inverses;
 use crate::signing::INVERSE;
-use lists::Signed;
-use words::{Asked, Letters};
+use words::Letters;
 
 // What stands for no factor: the empty part at the start of the given letters.
 fn no_part() -> Part
@@ -80,10 +79,10 @@ pub(crate) fn part(bytes: &[u8], ends: &[u16], inverses: usize, number: u8) -> P
     let mut list_letters = [0u8; limits::SIGNED_ROOM];
     let mut list_ends = [0u16; limits::SIGNED_GENERATORS];
     match lists::reduce_signed(bytes, ends, &mut list_letters, &mut list_ends) {
-        Signed::Refused(_) => no_part(),
-        Signed::Lengths(given, _) => match of_inverses(inverses) {
-            Asked::Refused(_) => no_part(),
-            Asked::Passed => factor_part(ends, &list_ends, given, number),
+        Err(_) => no_part(),
+        Ok(lengths) => match of_inverses(inverses) {
+            Err(_) => no_part(),
+            Ok(()) => factor_part(ends, &list_ends, lengths.given, number),
         },
     }
 }

@@ -2,8 +2,7 @@
 ghost use Rattle.std.specs.Prelude.{◌≡◌, map};
 ghost use Rattle.subgroups.specs.Signing.{signed_byte, signed_factors};
 
-use engine::Verdict;
-use slices::widening::wide;
+use words::{Factors, Refusal};
 
 // What an inverse's number has before the generator's.
 pub(crate) const INVERSE: u8 = 128;
@@ -26,25 +25,23 @@ fn signed_number(generators: usize, i: u8) -> u8
 fn sign(generators: usize, series: &mut [u8])
     ensures { series.new ≡ map (signed_byte generators) series.old }
 {
-    let mut i = 0;
-    while i < series.len() {
-        series[i] = signed_number(generators, series[i]);
-        i += 1;
+    for number in series.iter_mut() {
+        *number = signed_number(generators, *number);
     }
 }
 
 // So do the factors that a verdict has in the front of the witness.
-pub(crate) fn sign_factors(verdict: Verdict, generators: usize, witness: &mut [u8])
+pub(crate) fn sign_factors(
+    verdict: Result<Option<Factors>, Refusal>,
+    generators: usize,
+    witness: &mut [u8],
+)
     ensures { witness.new ≡ signed_factors verdict generators witness.old }
 {
-    match verdict {
-        Verdict::Member(count) => {
-            let k = wide(count.0);
-            if k <= witness.len() {
-                sign(generators, &mut witness[..k]);
-            }
+    if let Ok(Some(count)) = verdict {
+        let k = usize::from(count.0);
+        if k <= witness.len() {
+            sign(generators, &mut witness[..k]);
         }
-        Verdict::None => {}
-        Verdict::Refused(_) => {}
     }
 }

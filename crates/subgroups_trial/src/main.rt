@@ -7,11 +7,11 @@
 
 mod printing;
 
-ghost use Rattle.std.specs.Prelude.{◌≡◌, length, IfOk};
+ghost use Rattle.std.specs.Prelude.{◌≡◌, ◌^◌, ◌<◌, length, IfOk};
+ghost use Rattle.engine.specs.Calls.{Verdict};
 ghost use Rattle.subgroups.specs.Calls.{JudgesSigned};
 ghost use Rattle.subgroups.specs.Parts.{part_of};
 
-use engine::Verdict;
 use std::io;
 use std::io::Write;
 use subgroups::Part;
@@ -65,13 +65,12 @@ fn judge(
     second: &mut [u16],
     witness: &mut [u8],
     inverses: &mut [u8],
-) -> io::Result<Verdict>
-    ensures { IfOk result (λ verdict. JudgesSigned bytes.now ends.now target.now n verdict
+) -> io::Result<()>
+    ensures { (verdict : Verdict) × JudgesSigned bytes.now ends.now target.now n verdict
         (record { first = first.old; second = second.old; witness = witness.old })
         (record { first = first.new; second = second.new; witness = witness.new })
-        inverses.old inverses.new) }
+        inverses.old inverses.new }
 {
-    showing::lists::call(output, bytes, ends, target, n)?;
     let verdict = subgroups::judge(
         bytes,
         ends,
@@ -82,26 +81,31 @@ fn judge(
         witness,
         inverses,
     );
-    printing::verdict(output, verdict)?;
+    showing::lists::call(output, bytes, ends, target, n)?;
+    showing::verdict(output, verdict)?;
     showing::lent::table(output, first)?;
     showing::lent::table(output, second)?;
     showing::lent::witness(output, witness)?;
     showing::lent::letters(output, inverses)?;
-    writeln!(output)?;
-    Ok(verdict)
+    writeln!(output)
 }
 
-fn small(
+// Lends two tables of so many entries, full of 65,535, a witness of so many bytes, full of 255, and an inverse slice of so many dots.
+fn lending<const ENTRIES: usize, const BYTES: usize, const DOTS: usize>(
     output: &mut impl Write,
     bytes: &[u8],
     ends: &[u16],
     target: &[u8],
     n: u16,
-) -> io::Result<()> {
-    let mut first = [65535u16; TABLE];
-    let mut second = [65535u16; TABLE];
-    let mut witness = [255u8; WITNESS];
-    let mut inverses = [46u8; INVERSES];
+) -> io::Result<()>
+    requires entries { ENTRIES < 2 ^ 32 }
+    requires witness { BYTES < 2 ^ 32 }
+    requires inverses { DOTS < 2 ^ 32 }
+{
+    let mut first = [65535u16; ENTRIES];
+    let mut second = [65535u16; ENTRIES];
+    let mut witness = [255u8; BYTES];
+    let mut inverses = [46u8; DOTS];
     judge(
         output,
         bytes,
@@ -112,8 +116,17 @@ fn small(
         &mut second,
         &mut witness,
         &mut inverses,
-    )?;
-    Ok(())
+    )
+}
+
+fn small(
+    output: &mut impl Write,
+    bytes: &[u8],
+    ends: &[u16],
+    target: &[u8],
+    n: u16,
+) -> io::Result<()> {
+    lending::<TABLE, WITNESS, INVERSES>(output, bytes, ends, target, n)
 }
 
 fn without_list(output: &mut impl Write, target: &[u8], n: u16) -> io::Result<()> {
@@ -169,23 +182,14 @@ fn relations(output: &mut impl Write) -> io::Result<()> {
 // A generator of 80 letters, whose inverse has 120. No two of their suffixes are the same, so there are as many states as q is, and the tables are used to
 // their last entries.
 fn whole_square(output: &mut impl Write) -> io::Result<()> {
-    let mut first = [65535u16; SQUARE];
-    let mut second = [65535u16; SQUARE];
-    let mut witness = [255u8; WITNESS];
-    let mut inverses = [46u8; INVERSES];
     let ends = [80u16];
-    judge(
+    lending::<SQUARE, WITNESS, INVERSES>(
         output,
         b"RSRSRSRSRSRSRSRSRSRSRSRSRSRSRSRSRSRSRSRSRSRSRSRSRSRSRSRSRSRSRSRSRSRSRSRSRSRSRSRS",
         &ends,
         b"",
         2,
-        &mut first,
-        &mut second,
-        &mut witness,
-        &mut inverses,
-    )?;
-    Ok(())
+    )
 }
 
 // Several least series: the first is written, and a given number stands before an inverse's. SS is a generator or the inverse of S; R is its own inverse.
@@ -212,23 +216,14 @@ fn powers_of_t(output: &mut impl Write) -> io::Result<()> {
 
 // S, SR, SR to the 40th, and an empty generator.
 fn four(output: &mut impl Write, target: &[u8], n: u16) -> io::Result<()> {
-    let mut first = [65535u16; LARGE_TABLE];
-    let mut second = [65535u16; LARGE_TABLE];
-    let mut witness = [255u8; WITNESS];
-    let mut inverses = [46u8; INVERSES];
     let ends = [1u16, 3, 83, 83];
-    judge(
+    lending::<LARGE_TABLE, WITNESS, INVERSES>(
         output,
         b"SSRSRSRSRSRSRSRSRSRSRSRSRSRSRSRSRSRSRSRSRSRSRSRSRSRSRSRSRSRSRSRSRSRSRSRSRSRSRSRSRSR",
         &ends,
         target,
         n,
-        &mut first,
-        &mut second,
-        &mut witness,
-        &mut inverses,
-    )?;
-    Ok(())
+    )
 }
 
 fn four_generators(output: &mut impl Write) -> io::Result<()> {
@@ -278,21 +273,12 @@ fn factors<'a>(
     ends: &[u16],
     inverses: &'a [u8],
 ) -> io::Result<()> {
-    factor(output, bytes, ends, inverses, 0)?;
-    factor(output, bytes, ends, inverses, 1)?;
-    factor(output, bytes, ends, inverses, 2)?;
-    factor(output, bytes, ends, inverses, 3)?;
-    factor(output, bytes, ends, inverses, 63)?;
-    factor(output, bytes, ends, inverses, 64)?;
-    factor(output, bytes, ends, inverses, 127)?;
-    factor(output, bytes, ends, inverses, 128)?;
-    factor(output, bytes, ends, inverses, 129)?;
-    factor(output, bytes, ends, inverses, 130)?;
-    factor(output, bytes, ends, inverses, 131)?;
-    factor(output, bytes, ends, inverses, 132)?;
-    factor(output, bytes, ends, inverses, 191)?;
-    factor(output, bytes, ends, inverses, 192)?;
-    factor(output, bytes, ends, inverses, 255)?;
+    let numbers = [
+        0u8, 1, 2, 3, 63, 64, 127, 128, 129, 130, 131, 132, 191, 192, 255,
+    ];
+    for number in numbers {
+        factor(output, bytes, ends, inverses, number)?;
+    }
     Ok(())
 }
 
@@ -306,11 +292,11 @@ fn just_enough(
     second: &mut [u16; LARGEST_TABLE],
     witness: &mut [u8],
     inverses: &mut [u8],
-) -> io::Result<Verdict>
-    ensures { IfOk result (λ verdict. JudgesSigned bytes.now ends.now target.now 1 verdict
+) -> io::Result<()>
+    ensures { (verdict : Verdict) × JudgesSigned bytes.now ends.now target.now 1 verdict
         (record { first = first.old; second = second.old; witness = witness.old })
         (record { first = first.new; second = second.new; witness = witness.new })
-        inverses.old inverses.new) }
+        inverses.old inverses.new }
 {
     judge(
         output, bytes, ends, target, 1, first, second, witness, inverses,
@@ -327,11 +313,11 @@ fn one_entry_less(
     second: &mut [u16; LARGEST_LESS_ONE],
     witness: &mut [u8],
     inverses: &mut [u8],
-) -> io::Result<Verdict>
-    ensures { IfOk result (λ verdict. JudgesSigned bytes.now ends.now target.now 1 verdict
+) -> io::Result<()>
+    ensures { (verdict : Verdict) × JudgesSigned bytes.now ends.now target.now 1 verdict
         (record { first = first.old; second = second.old; witness = witness.old })
         (record { first = first.new; second = second.new; witness = witness.new })
-        inverses.old inverses.new) }
+        inverses.old inverses.new }
 {
     judge(
         output, bytes, ends, target, 1, first, second, witness, inverses,
@@ -422,33 +408,18 @@ fn too_little(
     target: &[u8],
     n: u16,
 ) -> io::Result<()> {
-    let mut first = [65535u16; TOO_SHORT];
-    let mut second = [65535u16; TOO_SHORT];
-    let mut witness = [255u8; SHORT_WITNESS];
-    let mut inverses = [46u8; SHORT_INVERSES];
-    judge(
-        output,
-        bytes,
-        ends,
-        target,
-        n,
-        &mut first,
-        &mut second,
-        &mut witness,
-        &mut inverses,
-    )?;
-    Ok(())
+    lending::<TOO_SHORT, SHORT_WITNESS, SHORT_INVERSES>(output, bytes, ends, target, n)
 }
 
 // At first the answer to every question from 7 to 15 is no, and then from call to call one more is yes. Of question 14 the last call answers yes for the
 // witness, and no for the inverse slice.
 fn lowest_of_many(output: &mut impl Write) -> io::Result<()> {
-    let far_too_many = [88u8; TOO_MANY_LETTERS];
+    let far_too_many = [b'X'; TOO_MANY_LETTERS];
     let too_many_ends = [0u16; TOO_MANY_GENERATORS];
     too_little(output, &far_too_many, &too_many_ends, &far_too_many, 1001)?;
     let wrong_ends = [0u16; GENERATORS];
     too_little(output, &far_too_many, &wrong_ends, &far_too_many, 1001)?;
-    let wrong_letters = [88u8; LETTERS];
+    let wrong_letters = [b'X'; LETTERS];
     too_little(output, &wrong_letters, &wrong_ends, &far_too_many, 1001)?;
     too_little(output, &wrong_letters, &wrong_ends, &wrong_letters, 1001)?;
     let falling = [2u16, 1, 3];
@@ -538,7 +509,7 @@ fn factors_of_refused(output: &mut impl Write) -> io::Result<()> {
     let inverses = [46u8; INVERSES];
     let too_many_ends = [1u16; TOO_MANY_GENERATORS];
     factor(output, b"R", &too_many_ends, &inverses, 0)?;
-    let too_many = [82u8; TOO_MANY_LETTERS];
+    let too_many = [b'R'; TOO_MANY_LETTERS];
     let too_far = [4097u16];
     factor(output, &too_many, &too_far, &inverses, 0)?;
     let falling = [2u16, 1, 3];

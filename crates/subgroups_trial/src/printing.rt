@@ -1,20 +1,8 @@
-// What the trial prints with: a verdict, and of a factor the call and the part.
-use engine::Verdict;
+// What the trial prints of a factor: the call and the part.
 use showing::number;
 use std::io;
 use std::io::Write;
 use subgroups::Part;
-
-pub(crate) fn verdict(output: &mut impl Write, answer: Verdict) -> io::Result<()> {
-    match answer {
-        Verdict::Member(count) => {
-            write!(output, "member")?;
-            number(output, count.0)
-        }
-        Verdict::None => write!(output, "none"),
-        Verdict::Refused(refusal) => showing::refusal(output, refusal),
-    }
-}
 
 // The list, the length of the inverse slice, and the factor's number.
 pub(crate) fn factor(
@@ -26,7 +14,7 @@ pub(crate) fn factor(
 ) -> io::Result<()> {
     showing::lists::list(output, bytes, ends)?;
     write!(output, ", {inverses} bytes, factor")?;
-    number(output, factor as u16)?;
+    number(output, u16::from(factor))?;
     write!(output, ": ")
 }
 

@@ -2,7 +2,8 @@
 --     filled_part     of a front part of the table that is full
 --     table_filled    where the inputs fit, the table is filled
 -- Assumes, of the part, that a series weighs what its parts weigh together.
-use mathlib.Core.Bool.{Bool, true, false}
+use Rattle.std.specs.Prelude.{Result, Ok, Err}
+use Rattle.trees.specs.declared.Unfit.{Unfit}
 use mathlib.Core.Path.{◌≡◌, subst}
 use mathlib.Core.List.{List, ◌++◌}
 use Prim.Native.Nat.{ℕ, ◌+◌, ◌*◌, ◌≤◌, ◌<◌}
@@ -42,8 +43,8 @@ module _ (weight : List ℕ → ℕ) (weight_append : (a b : List ℕ) → weigh
           rw (get_or-append part (drop (count * count) before) 0 (place (length words) p q) (omega (arith, full.bounded.long)))
           (full_exact tree weight weight_append normal full p q row column))
 
-pub table_filled : {weight : List ℕ → ℕ} {count : ℕ} {letters rests children_r children_s wholes : List ℕ} {n : ℕ} {before : List ℕ} (r : Bool) {after : List ℕ}
+pub table_filled : {weight : List ℕ → ℕ} {count : ℕ} {letters rests children_r children_s wholes : List ℕ} {n : ℕ} {before : List ℕ} (r : Result Unit Unfit) {after : List ℕ}
     → Fills weight count letters rests children_r children_s wholes n before r after → Fits count letters rests children_r children_s wholes n before
     → Filled weight count letters rests children_r children_s wholes n before after
-table_filled true (fits, filled) fit = filled
-table_filled false (unfit, kept) fit = absurd (unfit fit)
+table_filled (Ok _) (fits, filled) fit = filled
+table_filled (Err _) (unfit, kept) fit = absurd (unfit fit)

@@ -6,12 +6,20 @@ use native.Mathlib.Omega.{arith}
 use Rattle.trees.specs.Tree.{at}
 use Rattle.levels.specs.Levels.{Uses, Relaxed}
 use Rattle.levels.proofs.Relaxing.{relaxed_none, relaxed_same}
-use Rattle.tables.specs.Nodes.{Finds, Noted, Begins, Front, Followed, LinkedBy}
+use Rattle.std.specs.Prelude.{Option, Some, None}
+use Rattle.tables.specs.Nodes.{Finds, Node, node_or, Noted, NotedAt, Begins, Front, Followed, LinkedBy}
 use Rattle.tables.specs.Relaxing.{Inside, Joins, Through}
+
+-- the child that is read is the one node that is noted
+noted_finds : {count : ℕ} (children : List ℕ) (p : ℕ) (r : Option ℕ) → p < count → NotedAt children p r → Finds count (Noted children count p) (node_or count r)
+noted_finds children p (Some c) below (positive, noted) =
+    record { found = λ inside. (below, positive, noted); only = λ s inside is. sym is.2 ∙ noted }
+noted_finds children p None below none =
+    record { found = λ inside. absurd (omega arith); only = λ s inside is. absurd (omega (arith, is.1, is.2)) }
 
 module _ {count : ℕ} {letters rests : List ℕ} where
   -- where the children agree with the letters and rests, the child that is noted is the node with the letter in front
-  pub child_front : {letter p r : ℕ} {children : List ℕ} → LinkedBy count letters rests letter children
+  child_front : {letter p r : ℕ} {children : List ℕ} → LinkedBy count letters rests letter children
       → Finds count (Noted children count p) r → Finds count (λ a. Front count letters rests letter a p) r
   child_front {letter} {p} {r} {children} linked finds =
       record {
@@ -24,6 +32,15 @@ module _ {count : ℕ} {letters rests : List ℕ} where
             let p_inside : p < count = omega (arith, linked.followed.rest_earlier a positive below, behind) in
             finds.only a inside (p_inside, positive, ap (at children) (sym behind) ∙ (linked.agree a below).rest positive spelled);
       }
+
+  -- the child that is read is the node with the letter in front, where there is one
+  pub child_found : {letter p : ℕ} {children : List ℕ} (r : Option ℕ) → LinkedBy count letters rests letter children → p < count
+      → NotedAt children p r → Finds count (λ a. Front count letters rests letter a p) (node_or count r)
+  child_found r linked below noted = child_front linked (noted_finds _ _ r below noted)
+
+  pub child_node : {letter p : ℕ} {children : List ℕ} (r : Option ℕ) → LinkedBy count letters rests letter children → p < count → NotedAt children p r → Node count r
+  child_node {p = p} (Some c) linked below (positive, noted) = omega (arith, linked.followed.inside p below, noted)
+  child_node None linked below none = tt
 
   -- a letter stands in front of a node only
   pub front_node : {letter a p : ℕ} {children : List ℕ} → Followed count letters rests children → Front count letters rests letter a p → p < count

@@ -1,5 +1,4 @@
 -- There is one full table: each entry is the least number that the rules make, or n + 1. So what `fill` promises leaves no choice. Assumes nothing.
-use mathlib.Core.Bool.{Bool, true, false}
 use mathlib.Core.Path.{◌≡◌, refl, sym, ◌∙◌}
 use mathlib.Core.List.{List}
 use Prim.Native.Nat.{ℕ, ◌*◌, ◌≤◌, ◌<◌}
@@ -7,6 +6,8 @@ use native.Mathlib.Decide.{dec_lt}
 use native.Mathlib.Omega.{arith}
 use lib.ListN.{get_or-eq_default}
 use lib.Seq.{ext_get_or}
+use Rattle.std.specs.Prelude.{Result, Ok, Err}
+use Rattle.trees.specs.declared.Unfit.{Unfit}
 use Rattle.trees.proofs.Remaining.{same_parts}
 use Rattle.levels.specs.Levels.{entry}
 use Rattle.tables.specs.Levelling.{Made, whole, one, two, Full}
@@ -40,11 +41,11 @@ module _ {count : ℕ} {letters rests wholes : List ℕ} {weight : List ℕ → 
       omega (arith, no_higher full full' p within, no_higher full' full p within))
 
 -- Two outcomes that meet the contract are one: the answer, and the whole table.
-pub fills_unique : (weight : List ℕ → ℕ) (count : ℕ) (letters rests children_r children_s wholes : List ℕ) (n : ℕ) (before after after' : List ℕ) (r r' : Bool)
+pub fills_unique : (weight : List ℕ → ℕ) (count : ℕ) (letters rests children_r children_s wholes : List ℕ) (n : ℕ) (before after after' : List ℕ) (r r' : Result Unit Unfit)
     → Fills weight count letters rests children_r children_s wholes n before r after → Fills weight count letters rests children_r children_s wholes n before r' after'
     → (r ≡ r') × (after ≡ after')
-fills_unique weight count letters rests children_r children_s wholes n before after after' true true f f' =
+fills_unique weight count letters rests children_r children_s wholes n before after after' (Ok _) (Ok _) f f' =
     (refl, same_parts (count * count) after after' (full_unique f.1.full f'.1.full) (f.1.kept ∙ sym f'.1.kept))
-fills_unique weight count letters rests children_r children_s wholes n before after after' true false f f' = absurd (f'.0 f.0)
-fills_unique weight count letters rests children_r children_s wholes n before after after' false true f f' = absurd (f.0 f'.0)
-fills_unique weight count letters rests children_r children_s wholes n before after after' false false f f' = (refl, f.1 ∙ sym f'.1)
+fills_unique weight count letters rests children_r children_s wholes n before after after' (Ok _) (Err _) f f' = absurd (f'.0 f.0)
+fills_unique weight count letters rests children_r children_s wholes n before after after' (Err _) (Ok _) f f' = absurd (f.0 f'.0)
+fills_unique weight count letters rests children_r children_s wholes n before after after' (Err _) (Err _) f f' = (refl, f.1 ∙ sym f'.1)

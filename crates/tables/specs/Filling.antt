@@ -1,9 +1,10 @@
 -- What filling the table of pairs promises. Assumes nothing: these are definitions.
-use Rattle.std.specs.Prelude.{Bool, true, false, ◌≡◌, List, ℕ, ◌*◌, ◌≤◌, ◌<◌, length, take, drop}
+use Rattle.std.specs.Prelude.{◌≡◌, List, ℕ, ◌*◌, ◌≤◌, ◌<◌, length, take, drop, Result, Ok, Err}
 use Rattle.limits.specs.Limits.{most_factors}
 use Rattle.words.specs.Word.{Word}
 use Rattle.products.specs.State.{AllNormal, LeastBy}
 use Rattle.trees.specs.Tree.{at, most_of_entry, word_at, Shape, Tree}
+use Rattle.trees.specs.declared.Unfit.{Unfit}
 use Rattle.tables.specs.Rules.{place}
 use Rattle.tables.specs.Nodes.{Linked}
 use Rattle.tables.specs.Levelling.{Full}
@@ -30,8 +31,8 @@ pub record Filled (weight : List ℕ → ℕ) (count : ℕ) (letters rests child
       → (p q : ℕ) → p < count → q < count → LeastBy gens weight n (word_at words p) (word_at words q) (at after (place count p q))
 
 -- Where the inputs fit the table is filled; else nothing changes, and the answer says so.
-abbrev pub Fills : (List ℕ → ℕ) → ℕ → List ℕ → List ℕ → List ℕ → List ℕ → List ℕ → ℕ → List ℕ → Bool → List ℕ → Type 0
-Fills weight count letters rests children_r children_s wholes n before true after =
+abbrev pub Fills : (List ℕ → ℕ) → ℕ → List ℕ → List ℕ → List ℕ → List ℕ → List ℕ → ℕ → List ℕ → Result Unit Unfit → List ℕ → Type 0
+Fills weight count letters rests children_r children_s wholes n before (Ok _) after =
     Fits count letters rests children_r children_s wholes n before × Filled weight count letters rests children_r children_s wholes n before after
-Fills weight count letters rests children_r children_s wholes n before false after =
+Fills weight count letters rests children_r children_s wholes n before (Err _) after =
     (Fits count letters rests children_r children_s wholes n before → ⊥) × (after ≡ before)

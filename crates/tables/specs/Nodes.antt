@@ -1,12 +1,23 @@
 -- What the slices of a tree say of its nodes: numbers only. Assumes nothing: these are definitions.
-use Rattle.std.specs.Prelude.{◌≡◌, List, ℕ, ◌*◌, ◌≤◌, ◌<◌, length}
+use Rattle.std.specs.Prelude.{◌≡◌, List, ℕ, ◌*◌, ◌≤◌, ◌<◌, length, Option, Some, None}
 use Rattle.limits.specs.Limits.{most_factors}
 use Rattle.trees.specs.Tree.{at, most_of_entry}
+use Rattle.trees.specs.declared.SuffixTree.{SuffixTree}
 
 -- r is the one number below `count` of which P is true, and is not below `count` where there is none
 pub record Finds (count : ℕ) (P : ℕ → Type 0) (r : ℕ) : Type 0 where
   pub found : r < count → P r
   pub only : (p : ℕ) → p < count → P p → p ≡ r
+
+-- a number that may be missing, which is then as good as one that is no node
+abbrev pub node_or : ℕ → Option ℕ → ℕ
+node_or count (Some p) = p
+node_or count None = count
+
+-- a number that is there is a node
+abbrev pub Node : ℕ → Option ℕ → Type 0
+Node count (Some p) = p < count
+Node count None = Unit {0}
 
 -- each number among the first `many` is below the bound
 abbrev pub AllBelow : List ℕ → ℕ → ℕ → Type 0
@@ -30,6 +41,11 @@ pub record Room (count letters_length rests_length children_rlength children_sle
 -- c is noted as a child of p; 0 stands for none
 abbrev pub Noted : List ℕ → ℕ → ℕ → ℕ → Type 0
 Noted children count p c = (p < count) × (0 < c) × (at children p ≡ c)
+
+-- the child that is noted at p, where there is one
+abbrev pub NotedAt : List ℕ → ℕ → Option ℕ → Type 0
+NotedAt children p (Some c) = (0 < c) × (at children p ≡ c)
+NotedAt children p None = at children p ≡ 0
 
 -- Letters, rests and the children by one letter whose indices can be followed.
 pub record Followed (count : ℕ) (letters rests children : List ℕ) : Type 0 where
@@ -74,3 +90,7 @@ module _ (count : ℕ) (letters rests : List ℕ) where
   pub record Linked (children_r children_s : List ℕ) : Type 0 where
     pub r : LinkedBy 82 children_r
     pub s : LinkedBy 83 children_s
+
+-- the same of a tree of suffixes as one value
+abbrev pub Linked_in : SuffixTree → Type 0
+Linked_in t = Linked t.count t.letters.now t.rests.now t.children_r.now t.children_s.now

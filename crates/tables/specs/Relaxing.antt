@@ -48,12 +48,15 @@ module _ (count : ℕ) where
         Joins (λ a. Front count letters rests 82 a x) (λ b. Front count letters rests 82 y b) One q c
         ⊎ Joins (λ a. Front count letters rests 82 a x) (λ b. Front count letters rests 82 b y) One q c
 
+    -- C and D: two S's in front of x, or two fewer of y
+    abbrev pub UsesTwoS : ℕ → ℕ → Uses
+    UsesTwoS x y q c =
+        Joins (Through (λ m. Front count letters rests 83 m x) (λ m a. Front count letters rests 83 a m)) (λ b. Front count letters rests 83 y b) One q c
+        ⊎ Joins (λ a. Front count letters rests 83 a x) (Through (λ m. Front count letters rests 83 y m) (λ m b. Front count letters rests 83 m b)) One q c
+
     -- C, D, and G for the letter S
     abbrev pub UsesS : ℕ → ℕ → Uses
-    UsesS x y q c =
-        (Joins (Through (λ m. Front count letters rests 83 m x) (λ m a. Front count letters rests 83 a m)) (λ b. Front count letters rests 83 y b) One q c
-        ⊎ Joins (λ a. Front count letters rests 83 a x) (Through (λ m. Front count letters rests 83 y m) (λ m b. Front count letters rests 83 m b)) One q c)
-        ⊎ Joins (λ a. Front count letters rests 83 a x) (λ b. Front count letters rests 83 b y) One q c
+    UsesS x y q c = UsesTwoS x y q c ⊎ Joins (λ a. Front count letters rests 83 a x) (λ b. Front count letters rests 83 b y) One q c
 
     -- E, where a is S in front of x and y is S in front of v. For each b that is S in front of some t: with (x, y) first, (a, t) from (v, b);
     -- with (x, y) second, (b, v) from (t, a).

@@ -6,6 +6,7 @@ use Rattle.refusals.specs.Telling.{pick}
 use Rattle.words.specs.Word.{Letter, R, S}
 use Rattle.words.specs.Bytes.{byte}
 use Rattle.trees.specs.Tree.{at}
+use Rattle.trees.specs.declared.SuffixTree.{SuffixTree}
 
 abbrev pub place : ℕ → ℕ → ℕ → ℕ
 place count x y = x * count + y
@@ -31,3 +32,7 @@ module _ (count : ℕ) (letters rests : List ℕ) where
     E : (a v b : ℕ) → Is S a → Is S v → Is S b → Rule (place count (at rests a) v) (place count (at rests v) b) (place count a (at rests b))
     F : (u v q : ℕ) → u < count → v < count → q < count → Rule (place count u v) (place count v q) (place count u q)
     G : (x : Letter) (a b : ℕ) → Is x a → Is x b → Rule (place count (at rests a) (at rests b)) (count * count) (place count a b)
+
+-- the rules of a tree of suffixes as one value
+abbrev pub Rule_in : SuffixTree → ℕ → ℕ → ℕ → Type 0
+Rule_in t = Rule t.count t.letters.now t.rests.now

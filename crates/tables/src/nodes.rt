@@ -1,25 +1,19 @@
-// Nodes of the tree and pairs of them. A node is a number below `count`; any other number stands for no node.
+// Nodes of the tree and pairs of them. A node is a number below `count`.
 ghost use Rattle.std.specs.Prelude.{◌≡◌, ◌+◌, ◌*◌, ◌^◌, ◌≤◌, ◌<◌, length};
 ghost use Rattle.refusals.specs.Telling.{Tells};
 ghost use Rattle.trees.specs.Tree.{most_of_entry};
 ghost use Rattle.tables.specs.Rules.{place, next_pair};
-ghost use Rattle.tables.specs.Nodes.{Finds, Noted, Begins, Front};
+ghost use Rattle.tables.specs.Nodes.{Finds, Node, node_or, NotedAt, RestsEarlier, Begins, Front};
 
-use trees::entries::entry;
+use trees::SuffixTree;
 
 // The child of p, where it has one.
-pub(crate) fn child(children: &[u16], count: usize, p: usize) -> usize
-    requires { count ≤ length children.now }
-    ensures { Finds count (Noted children.now count p) result }
+pub(crate) fn child(children: &[u16], p: usize) -> Option<usize>
+    requires { p < length children.now }
+    ensures { NotedAt children.now p result }
 {
-    if count <= p {
-        return count;
-    }
-    let c = entry(children, p);
-    if c == 0 {
-        return count;
-    }
-    c
+    let c = usize::from(children[p]);
+    if c == 0 { None } else { Some(c) }
 }
 
 // Whether p's word begins with the letter. The letter of node 0 means nothing.
@@ -27,25 +21,23 @@ pub(crate) fn begins(letters: &[u8], letter: u8, p: usize) -> bool
     requires { p < length letters.now }
     ensures { Tells result (Begins letters.now letter p) }
 {
-    if p == 0 {
-        return false;
-    }
-    letters[p] == letter
+    p != 0 && letters[p] == letter
 }
 
 // The rest of p, where p's word begins with the letter.
-pub(crate) fn rest_after(letters: &[u8], rests: &[u16], count: usize, letter: u8, p: usize) -> usize
-    requires count_in_bounds { count ≤ length letters.now }
-    requires count_in_bounds_2 { count ≤ length rests.now }
-    ensures { Finds count (Front count letters.now rests.now letter p) result }
+pub(crate) fn rest_after(tree: &SuffixTree, letter: u8, p: usize) -> Option<usize>
+    requires count_in_bounds { tree.now.count ≤ length tree.now.letters.now }
+    requires count_in_bounds_2 { tree.now.count ≤ length tree.now.rests.now }
+    requires rests_earlier { RestsEarlier tree.now.rests.now tree.now.count }
+    requires p_lt_count { p < tree.now.count }
+    ensures front { Finds tree.now.count (Front tree.now.count tree.now.letters.now tree.now.rests.now letter p) (node_or tree.now.count result) }
+    ensures node { Node tree.now.count result }
 {
-    if count <= p {
-        return count;
+    if begins(tree.letters, letter, p) {
+        Some(usize::from(tree.rests[p]))
+    } else {
+        None
     }
-    if begins(letters, letter, p) {
-        return entry(rests, p);
-    }
-    count
 }
 
 // The place of a pair in the table.

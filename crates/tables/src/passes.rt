@@ -1,72 +1,50 @@
 // The table is filled level by level: a pass at level k relaxes the rules of each pair whose entry is k, from the first place to the last.
 // One pass a level is enough: a rule with two premises leads above k, and one with a single premise to a larger row, which is yet to come.
-ghost use Rattle.std.specs.Prelude.{true, ◌≡◌, ◌+◌, ◌*◌, ◌-◌, ◌≤◌, ◌<◌, length, replicate};
+ghost use Rattle.std.specs.Prelude.{true, ◌≡◌, ◌+◌, ◌*◌, ◌-◌, ◌≤◌, ◌<◌, length};
 ghost use Rattle.limits.specs.Limits.{most_factors};
 ghost use Rattle.refusals.specs.Telling.{Tells};
 ghost use Rattle.trees.specs.Tree.{most_of_entry};
 ghost use Rattle.products.specs.Product.{measure};
 ghost use Rattle.levels.specs.Levels.{Relaxed};
-ghost use Rattle.tables.specs.Rules.{place, Rule};
-ghost use Rattle.tables.specs.Nodes.{Linked, AllBelow};
+ghost use Rattle.tables.specs.Rules.{place, Rule_in};
+ghost use Rattle.tables.specs.Nodes.{Linked_in, AllBelow};
 ghost use Rattle.tables.specs.Relaxing.{Ready};
 ghost use Rattle.tables.specs.Levelling.{Visited, Passes, Without, Sought, NextLevel, Starts, Full};
 
 use crate::nodes::{Pair, next_pair, place_of};
 use crate::relaxing::relax;
 use crate::rules::relax_pair;
-use trees::entries::{entry, lesser};
+use trees::SuffixTree;
 use words::Factors;
 
 // The pair's rules are relaxed where its entry is the level.
-fn visit(
-    table: &mut [u16],
-    count: usize,
-    letters: &[u8],
-    rests: &[u16],
-    children_r: &[u16],
-    children_s: &[u16],
-    x: usize,
-    y: usize,
-    k: Factors,
-)
-    requires ready { Ready count k.0 table.old }
-    requires linked { Linked count letters.now rests.now children_r.now children_s.now }
-    requires x_lt_count { x < count }
-    requires y_lt_count { y < count }
-    ensures { Visited (Rule count letters.now rests.now) k.0 (place count x y) table.old table.new }
+fn visit(table: &mut [u16], tree: &SuffixTree, x: usize, y: usize, k: Factors)
+    requires ready { Ready tree.now.count k.0 table.old }
+    requires linked { Linked_in tree.now }
+    requires x_lt_count { x < tree.now.count }
+    requires y_lt_count { y < tree.now.count }
+    ensures { Visited (Rule_in tree.now) k.0 (place tree.now.count x y) table.old table.new }
 {
-    let z = place_of(count, x, y);
+    let z = place_of(tree.count, x, y);
     if table[z] == k.0 {
-        relax_pair(
-            table, count, letters, rests, children_r, children_s, x, y, k,
-        );
+        relax_pair(table, tree, x, y, k);
     }
 }
 
-// Whether there was no entry from `low` to `high` so far, and this is not one either. Where `low` is `high`, two tests one inside the other become one
-// comparison; with a return for each they did not.
+// Whether there was no entry from `low` to `high` so far, and this is not one either. Where `low` is `high`, both comparisons become one.
 fn absent_too(so_far: bool, entry: u16, low: Factors, high: Factors) -> bool
     ensures { Tells result ((so_far ≡ true) × (low.0 ≤ entry → entry ≤ high.0 → ⊥)) }
 {
-    if low.0 <= entry {
-        if entry <= high.0 {
-            return false;
-        }
-    }
-    so_far
+    !(low.0 <= entry && entry <= high.0) && so_far
 }
 
-// Whether no place from `from` up to `end` has an entry from `low` to `high`. No early end, so that the loop runs on many entries at once.
-pub(crate) fn absent(table: &[u16], from: usize, end: usize, low: Factors, high: Factors) -> bool
-    requires from_le_end { from ≤ end }
-    requires end_in_bounds { end ≤ length table.now }
-    ensures { Tells result (Without low.0 high.0 table.now from end) }
+// Whether no place has an entry from `low` to `high`. No early end, so that the loop runs on many entries at once.
+pub(crate) fn absent(table: &[u16], low: Factors, high: Factors) -> bool
+    ensures { Tells result (Without low.0 high.0 table.now 0 (length table.now)) }
 {
     let mut none = true;
-    let mut p = from;
-    while p < end {
-        none = absent_too(none, table[p], low, high);
-        p += 1;
+    for x in table {
+        none = absent_too(none, *x, low, high);
     }
     none
 }
@@ -77,12 +55,10 @@ fn find(table: &[u16], from: usize, last: usize, k: Factors) -> usize
     requires last_in_bounds { last < length table.now }
     ensures { Sought k.0 table.now from last result }
 {
-    let mut p = from;
-    while p < last {
+    for p in from..last {
         if table[p] == k.0 {
             return p;
         }
-        p += 1;
     }
     last
 }
@@ -93,10 +69,8 @@ fn seek_in(row: &[u16], y: usize, k: Factors) -> usize
     ensures { Sought k.0 row.now y (length row.now - 1) result }
 {
     let last = row.len() - 1;
-    if y == 0 {
-        if absent(row, 0, row.len(), k, k) {
-            return last;
-        }
+    if y == 0 && absent(row, k, k) {
+        return last;
     }
     find(row, y, last, k)
 }
@@ -115,32 +89,22 @@ pub(crate) fn seek(table: &[u16], count: usize, x: usize, y: usize, k: Factors) 
 
 // One pass at the level k. Where no entry lies above k it would lower none: so the last level costs nothing where each pair is led to. Visits of the
 // places that `seek` passes over would change nothing.
-fn pass(
-    table: &mut [u16],
-    count: usize,
-    letters: &[u8],
-    rests: &[u16],
-    children_r: &[u16],
-    children_s: &[u16],
-    k: Factors,
-)
-    requires ready { Ready count k.0 table.old }
-    requires linked { Linked count letters.now rests.now children_r.now children_s.now }
-    requires le_count { 1 ≤ count }
-    ensures { Passes (Visited (Rule count letters.now rests.now) k.0) (count * count) table.old table.new }
+fn pass(table: &mut [u16], tree: &SuffixTree, k: Factors)
+    requires ready { Ready tree.now.count k.0 table.old }
+    requires linked { Linked_in tree.now }
+    requires le_count { 1 ≤ tree.now.count }
+    ensures { Passes (Visited (Rule_in tree.now) k.0) (tree.now.count * tree.now.count) table.old table.new }
 {
     let next = k.0 + 1;
-    if absent(table, 0, table.len(), Factors(next), Factors(u16::MAX)) {
+    if absent(table, Factors(next), Factors(u16::MAX)) {
         return;
     }
     let mut pair = Pair { row: 0, column: 0 };
-    while pair.row < count {
+    while pair.row < tree.count {
         let x = pair.row;
-        let y = seek(table, count, x, pair.column, k);
-        visit(
-            table, count, letters, rests, children_r, children_s, x, y, k,
-        );
-        pair = next_pair(Pair { row: x, column: y }, count);
+        let y = seek(table, tree.count, x, pair.column, k);
+        visit(table, tree, x, y, k);
+        pair = next_pair(Pair { row: x, column: y }, tree.count);
     }
 }
 
@@ -148,10 +112,7 @@ fn pass(
 fn above(entry: u16, k: Factors, none: u16) -> u16
     ensures { (k.0 < entry → result ≡ entry) × (entry ≤ k.0 → result ≡ none) }
 {
-    if k.0 < entry {
-        return entry;
-    }
-    none
+    if k.0 < entry { entry } else { none }
 }
 
 // The level after k: the least entry above it, or n + 1. Every turn does the same, so that the loop runs on many entries at once.
@@ -162,64 +123,39 @@ fn level_after(table: &[u16], k: Factors, n: Factors) -> Factors
 {
     let none = n.0 + 1;
     let mut least = none;
-    let mut i = 0;
-    while i < table.len() {
-        least = lesser(least, above(table[i], k, none));
-        i += 1;
+    for x in table {
+        least = least.min(above(*x, k, none));
     }
     Factors(least)
 }
 
-// Every entry becomes `none`: the n + 1 that stands for no series.
-pub(crate) fn clear(table: &mut [u16], none: Factors)
-    ensures { table.new ≡ replicate (length table.old) none.0 }
-{
-    let mut p = 0;
-    while p < table.len() {
-        table[p] = none.0;
-        p += 1;
-    }
-}
-
 // Rule A: each generator leads from nothing, which is node 0, to its own node. Row 0 begins at the table's first place.
-pub(crate) fn start(table: &mut [u16], count: usize, wholes: &[u16])
-    requires table_len { length table.old ≡ count * count }
-    requires le_count { 1 ≤ count }
-    requires all_below { AllBelow wholes.now (length wholes.now) count }
-    ensures { Relaxed 1 (Starts count wholes.now) table.old table.new }
+pub(crate) fn start(table: &mut [u16], tree: &SuffixTree)
+    requires table_len { length table.old ≡ tree.now.count * tree.now.count }
+    requires le_count { 1 ≤ tree.now.count }
+    requires all_below { AllBelow tree.now.wholes.now (length tree.now.wholes.now) tree.now.count }
+    ensures { Relaxed 1 (Starts tree.now.count tree.now.wholes.now) table.old table.new }
 {
-    let mut j = 0;
-    while j < wholes.len() {
-        relax(table, entry(wholes, j), Factors(1));
-        j += 1;
+    for whole in tree.wholes {
+        relax(table, usize::from(*whole), Factors(1));
     }
 }
 
-// Fills the whole table, up to the bound n.
-pub(crate) fn fill_levels(
-    table: &mut [u16],
-    count: usize,
-    letters: &[u8],
-    rests: &[u16],
-    children_r: &[u16],
-    children_s: &[u16],
-    wholes: &[u16],
-    n: Factors,
-)
-    requires table_len { length table.old ≡ count * count }
-    requires le_count { 1 ≤ count }
-    requires count_le_most_of_entry { count ≤ most_of_entry }
+// Fills the whole table, up to the bound n. An entry of n + 1 stands for no series.
+pub(crate) fn fill_levels(table: &mut [u16], tree: &SuffixTree, n: Factors)
+    requires table_len { length table.old ≡ tree.now.count * tree.now.count }
+    requires le_count { 1 ≤ tree.now.count }
+    requires count_le_most_of_entry { tree.now.count ≤ most_of_entry }
     requires n_le_most_factors { n.0 ≤ most_factors }
-    requires linked { Linked count letters.now rests.now children_r.now children_s.now }
-    requires all_below { AllBelow wholes.now (length wholes.now) count }
-    ensures { Full count letters.now rests.now wholes.now measure n.0 table.new }
+    requires linked { Linked_in tree.now }
+    requires all_below { AllBelow tree.now.wholes.now (length tree.now.wholes.now) tree.now.count }
+    ensures { Full tree.now.count tree.now.letters.now tree.now.rests.now tree.now.wholes.now measure n.0 table.new }
 {
-    let none = n.0 + 1;
-    clear(table, Factors(none));
-    start(table, count, wholes);
+    table.fill(n.0 + 1);
+    start(table, tree);
     let mut k = Factors(1);
     while k.0 <= n.0 {
-        pass(table, count, letters, rests, children_r, children_s, k);
+        pass(table, tree, k);
         k = level_after(table, k, n);
     }
 }

@@ -3,10 +3,10 @@ ghost use Rattle.std.specs.Prelude.{◌≡◌, ◌+◌, ◌≤◌, ◌<◌, min,
 ghost use Rattle.trees.specs.Tree.{most_of_entry};
 ghost use Rattle.levels.specs.Levels.{entry, Relaxed};
 ghost use Rattle.levels.specs.Passes.{Only};
+ghost use Rattle.tables.specs.Nodes.{Node, node_or};
 ghost use Rattle.tables.specs.Relaxing.{Ready, Inside, One};
 
 use crate::nodes::place_of;
-use trees::entries::lesser;
 use words::Factors;
 
 // The store at the level, where it lowers.
@@ -37,16 +37,24 @@ pub(crate) fn lower(table: &mut [u16], from: usize, to: usize, k: Factors)
     requires from_bound { k.0 + entry table.old from ≤ most_of_entry }
     ensures { Relaxed k.0 (Only from to) table.old table.new }
 {
-    table[to] = lesser(table[to], k.0 + table[from]);
+    table[to] = table[to].min(k.0 + table[from]);
 }
 
-// A rule with one premise, at the pair of a and b where both are nodes. The place one past the end stands for the other premise.
-pub(crate) fn relax_at(table: &mut [u16], count: usize, a: usize, b: usize, k: Factors)
-    requires { Ready count k.0 table.old }
-    ensures { Relaxed k.0 (Inside count a b (One count)) table.old table.new }
+// A rule with one premise, at the pair of a and b where both are there. The place one past the end stands for the other premise.
+pub(crate) fn relax_at(
+    table: &mut [u16],
+    count: usize,
+    a: Option<usize>,
+    b: Option<usize>,
+    k: Factors,
+)
+    requires ready { Ready count k.0 table.old }
+    requires a_node { Node count a }
+    requires b_node { Node count b }
+    ensures { Relaxed k.0 (Inside count (node_or count a) (node_or count b) (One count)) table.old table.new }
 {
-    if a < count {
-        if b < count {
+    if let Some(a) = a {
+        if let Some(b) = b {
             relax(table, place_of(count, a, b), k);
         }
     }

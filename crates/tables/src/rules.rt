@@ -2,11 +2,10 @@
 ghost use Rattle.std.specs.Prelude.{◌≤◌, ◌<◌, length};
 ghost use Rattle.levels.specs.Levels.{Relaxed, Using};
 ghost use Rattle.levels.specs.Passes.{Upto};
-ghost use Rattle.tables.specs.Rules.{place, Rule};
-ghost use Rattle.tables.specs.Nodes.{RestsEarlier, LinkedBy, Linked};
+ghost use Rattle.tables.specs.Rules.{place, Rule_in};
+ghost use Rattle.tables.specs.Nodes.{RestsEarlier, LinkedBy, Linked_in};
 ghost use Rattle.tables.specs.Relaxing.{
   Ready,
-  Inside,
   RowTurn,
   ColumnTurn,
   UsesF,
@@ -19,7 +18,7 @@ ghost use Rattle.tables.specs.Relaxing.{
 
 use crate::nodes::{begins, child, place_of, rest_after};
 use crate::relaxing::{lower, relax_at, relax_from};
-use slices::widening::wide;
+use trees::SuffixTree;
 use words::Factors;
 
 // F with the pair first: the row of x from the row of y.
@@ -31,10 +30,8 @@ fn relax_row(table: &mut [u16], count: usize, x: usize, y: usize, k: Factors)
 {
     let to = place_of(count, x, 0);
     let from = place_of(count, y, 0);
-    let mut j = 0;
-    while j < count {
+    for j in 0..count {
         lower(table, from + j, to + j, k);
-        j += 1;
     }
 }
 
@@ -82,76 +79,53 @@ fn relax_f(table: &mut [u16], count: usize, x: usize, y: usize, k: Factors)
 }
 
 // B and G for the letter R. Each leads to a pair of x's child.
-fn relax_r(
-    table: &mut [u16],
-    count: usize,
-    letters: &[u8],
-    rests: &[u16],
-    children_r: &[u16],
-    x: usize,
-    y: usize,
-    k: Factors,
-)
-    requires ready { Ready count k.0 table.old }
-    requires linked_by { LinkedBy count letters.now rests.now 82 children_r.now }
-    ensures { Relaxed k.0 (UsesR count letters.now rests.now x y) table.old table.new }
+fn relax_r(table: &mut [u16], tree: &SuffixTree, x: usize, y: usize, k: Factors)
+    requires ready { Ready tree.now.count k.0 table.old }
+    requires linked_by { LinkedBy tree.now.count tree.now.letters.now tree.now.rests.now 82 tree.now.children_r.now }
+    requires x_lt_count { x < tree.now.count }
+    requires y_lt_count { y < tree.now.count }
+    ensures { Relaxed k.0 (UsesR tree.now.count tree.now.letters.now tree.now.rests.now x y) table.old table.new }
 {
-    let a = child(children_r, count, x);
-    if count <= a {
+    let Some(a) = child(tree.children_r, x) else {
         return;
-    }
-    relax_at(table, count, a, rest_after(letters, rests, count, 82, y), k);
-    relax_at(table, count, a, child(children_r, count, y), k);
+    };
+    relax_at(table, tree.count, Some(a), rest_after(tree, b'R', y), k);
+    relax_at(table, tree.count, Some(a), child(tree.children_r, y), k);
 }
 
 // C, D, and G for the letter S. Each leads to a pair of x's child, or of the child's child.
-fn relax_s(
-    table: &mut [u16],
-    count: usize,
-    letters: &[u8],
-    rests: &[u16],
-    children_s: &[u16],
-    x: usize,
-    y: usize,
-    k: Factors,
-)
-    requires ready { Ready count k.0 table.old }
-    requires linked_by { LinkedBy count letters.now rests.now 83 children_s.now }
-    ensures { Relaxed k.0 (UsesS count letters.now rests.now x y) table.old table.new }
+fn relax_s(table: &mut [u16], tree: &SuffixTree, x: usize, y: usize, k: Factors)
+    requires ready { Ready tree.now.count k.0 table.old }
+    requires linked_by { LinkedBy tree.now.count tree.now.letters.now tree.now.rests.now 83 tree.now.children_s.now }
+    requires x_lt_count { x < tree.now.count }
+    requires y_lt_count { y < tree.now.count }
+    ensures { Relaxed k.0 (UsesS tree.now.count tree.now.letters.now tree.now.rests.now x y) table.old table.new }
 {
-    let a = child(children_s, count, x);
-    if count <= a {
+    let Some(a) = child(tree.children_s, x) else {
         return;
+    };
+    if let Some(b) = rest_after(tree, b'S', y) {
+        relax_at(table, tree.count, child(tree.children_s, a), Some(b), k);
+        relax_at(table, tree.count, Some(a), rest_after(tree, b'S', b), k);
     }
-    let b = rest_after(letters, rests, count, 83, y);
-    relax_at(table, count, child(children_s, count, a), b, k);
-    relax_at(table, count, a, rest_after(letters, rests, count, 83, b), k);
-    relax_at(table, count, a, child(children_s, count, y), k);
+    relax_at(table, tree.count, Some(a), child(tree.children_s, y), k);
 }
 
 // E at a node b that begins with S, whose rest is t: with the pair first, (a, t) from (v, b); with the pair second, (b, v) from (t, a).
 // The rest is read without a test of the place, since this is the body of the loop that rule E is.
-fn relax_triple(
-    table: &mut [u16],
-    count: usize,
-    letters: &[u8],
-    rests: &[u16],
-    a: usize,
-    v: usize,
-    b: usize,
-    k: Factors,
-)
-    requires ready { Ready count k.0 table.old }
-    requires count_in_bounds { count ≤ length letters.now }
-    requires count_in_bounds_2 { count ≤ length rests.now }
-    requires rests_earlier { RestsEarlier rests.now count }
-    requires a_lt_count { a < count }
-    requires v_lt_count { v < count }
-    requires b_lt_count { b < count }
-    ensures { Relaxed k.0 (TripleTurn count letters.now rests.now a v b) table.old table.new }
+fn relax_triple(table: &mut [u16], tree: &SuffixTree, a: usize, v: usize, b: usize, k: Factors)
+    requires ready { Ready tree.now.count k.0 table.old }
+    requires count_in_bounds { tree.now.count ≤ length tree.now.letters.now }
+    requires count_in_bounds_2 { tree.now.count ≤ length tree.now.rests.now }
+    requires rests_earlier { RestsEarlier tree.now.rests.now tree.now.count }
+    requires a_lt_count { a < tree.now.count }
+    requires v_lt_count { v < tree.now.count }
+    requires b_lt_count { b < tree.now.count }
+    ensures { Relaxed k.0 (TripleTurn tree.now.count tree.now.letters.now tree.now.rests.now a v b) table.old table.new }
 {
-    if begins(letters, 83, b) {
-        let t = wide(rests[b]);
+    let count = tree.count;
+    if begins(tree.letters, b'S', b) {
+        let t = usize::from(tree.rests[b]);
         relax_from(table, place_of(count, v, b), place_of(count, a, t), k);
         relax_from(table, place_of(count, t, a), place_of(count, b, v), k);
     }
@@ -159,85 +133,45 @@ fn relax_triple(
 
 // E for a pair of which the first with S in front is a, and the second without its S is v. One loop for both places of the pair in the rule:
 // they ask the same of each node.
-fn relax_triples(
-    table: &mut [u16],
-    count: usize,
-    letters: &[u8],
-    rests: &[u16],
-    a: usize,
-    v: usize,
-    k: Factors,
-)
-    requires ready { Ready count k.0 table.old }
-    requires count_in_bounds { count ≤ length letters.now }
-    requires count_in_bounds_2 { count ≤ length rests.now }
-    requires rests_earlier { RestsEarlier rests.now count }
-    ensures { Relaxed k.0 (Inside count a v (Triples count letters.now rests.now)) table.old table.new }
+fn relax_triples(table: &mut [u16], tree: &SuffixTree, a: usize, v: usize, k: Factors)
+    requires ready { Ready tree.now.count k.0 table.old }
+    requires count_in_bounds { tree.now.count ≤ length tree.now.letters.now }
+    requires count_in_bounds_2 { tree.now.count ≤ length tree.now.rests.now }
+    requires rests_earlier { RestsEarlier tree.now.rests.now tree.now.count }
+    requires a_lt_count { a < tree.now.count }
+    requires v_lt_count { v < tree.now.count }
+    ensures { Relaxed k.0 (Triples tree.now.count tree.now.letters.now tree.now.rests.now a v) table.old table.new }
 {
-    if count <= a {
-        return;
-    }
-    if count <= v {
-        return;
-    }
-    let mut b = 0;
-    while b < count {
-        relax_triple(table, count, letters, rests, a, v, b, k);
-        b += 1;
+    for b in 0..tree.count {
+        relax_triple(table, tree, a, v, b, k);
     }
 }
 
 // E: the three S's of three factors.
-fn relax_e(
-    table: &mut [u16],
-    count: usize,
-    letters: &[u8],
-    rests: &[u16],
-    children_s: &[u16],
-    x: usize,
-    y: usize,
-    k: Factors,
-)
-    requires ready { Ready count k.0 table.old }
-    requires linked_by { LinkedBy count letters.now rests.now 83 children_s.now }
-    ensures { Relaxed k.0 (UsesE count letters.now rests.now x y) table.old table.new }
+fn relax_e(table: &mut [u16], tree: &SuffixTree, x: usize, y: usize, k: Factors)
+    requires ready { Ready tree.now.count k.0 table.old }
+    requires linked_by { LinkedBy tree.now.count tree.now.letters.now tree.now.rests.now 83 tree.now.children_s.now }
+    requires x_lt_count { x < tree.now.count }
+    requires y_lt_count { y < tree.now.count }
+    ensures { Relaxed k.0 (UsesE tree.now.count tree.now.letters.now tree.now.rests.now x y) table.old table.new }
 {
-    let a = child(children_s, count, x);
-    if count <= a {
-        return;
+    if let Some(a) = child(tree.children_s, x) {
+        if let Some(v) = rest_after(tree, b'S', y) {
+            relax_triples(table, tree, a, v, k);
+        }
     }
-    relax_triples(
-        table,
-        count,
-        letters,
-        rests,
-        a,
-        rest_after(letters, rests, count, 83, y),
-        k,
-    );
 }
 
 // All rules in which the pair is a premise.
-pub(crate) fn relax_pair(
-    table: &mut [u16],
-    count: usize,
-    letters: &[u8],
-    rests: &[u16],
-    children_r: &[u16],
-    children_s: &[u16],
-    x: usize,
-    y: usize,
-    k: Factors,
-)
-    requires ready { Ready count k.0 table.old }
-    requires linked { Linked count letters.now rests.now children_r.now children_s.now }
-    requires x_lt_count { x < count }
-    requires y_lt_count { y < count }
-    ensures { Relaxed k.0 (Using (Rule count letters.now rests.now) (place count x y))
-        table.old table.new }
+pub(crate) fn relax_pair(table: &mut [u16], tree: &SuffixTree, x: usize, y: usize, k: Factors)
+    requires ready { Ready tree.now.count k.0 table.old }
+    requires linked { Linked_in tree.now }
+    requires x_lt_count { x < tree.now.count }
+    requires y_lt_count { y < tree.now.count }
+    ensures { Relaxed k.0 (Using (Rule_in tree.now) (place tree.now.count x y)) table.old table.new }
 {
-    relax_f(table, count, x, y, k);
-    relax_r(table, count, letters, rests, children_r, x, y, k);
-    relax_s(table, count, letters, rests, children_s, x, y, k);
-    relax_e(table, count, letters, rests, children_s, x, y, k);
+    relax_f(table, tree.count, x, y, k);
+    relax_r(table, tree, x, y, k);
+    relax_s(table, tree, x, y, k);
+    relax_e(table, tree, x, y, k);
 }

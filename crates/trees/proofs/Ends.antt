@@ -1,7 +1,7 @@
 -- Ends that each do not fall below the one before never fall. Assumes nothing.
-use mathlib.Core.Path.{◌≡◌, ap, ◌∙◌}
+use mathlib.Core.Path.{◌≡◌, ◌∙◌}
 use mathlib.Core.List.{List}
-use Prim.Native.Nat.{ℕ, zero, suc, ◌+◌, ◌-◌, ◌≤◌, ◌<◌, zero-le}
+use Prim.Native.Nat.{ℕ, zero, suc, ◌+◌, ◌≤◌, ◌<◌, zero-le}
 use native.Mathlib.Nat.{le_refl}
 use native.Mathlib.Numerals.{add-one}
 use native.Mathlib.Decide.{le_ind}
@@ -11,16 +11,8 @@ use Rattle.trees.specs.Tree.{at}
 use Rattle.trees.specs.Building.{Fits}
 use Rattle.trees.specs.Ends.{end_before, EndsFit}
 
-pub end_before_first : (ends : List ℕ) (i : ℕ) → i ≡ 0 → end_before ends i ≡ 0
-end_before_first ends i e = ap (end_before ends) e
-
 pub end_before_next : (ends : List ℕ) (i : ℕ) → end_before ends (i + 1) ≡ at ends i
 end_before_next ends i = rw (add-one i)
-
-pub end_before_later : (ends : List ℕ) (i : ℕ) → 0 < i → end_before ends i ≡ at ends (i - 1)
-end_before_later ends i h =
-    let next : i ≡ (i - 1) + 1 = omega arith in
-    ap (end_before ends) next ∙ end_before_next ends (i - 1)
 
 pub ends_rise : (ends : List ℕ) (limit : ℕ) → EndsFit ends limit → (i j : ℕ) → i ≤ j → j < length ends → at ends i ≤ at ends j
 ends_rise ends limit fit i j h =

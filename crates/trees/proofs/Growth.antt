@@ -1,11 +1,11 @@
 -- A tree grows: by one node or none at a step, and by a word's suffixes when the word is read. Assumes nothing.
 use mathlib.Core.Path.{◌≡◌, refl, ap, subst, ◌∙◌}
-use mathlib.Core.List.{List, [], ◌∷◌}
+use mathlib.Core.List.{List, ◌∷◌}
 use Prim.Native.Nat.{ℕ, suc, ◌+◌, ◌-◌, ◌≤◌, ◌<◌}
 use native.Mathlib.Nat.{le_refl}
 use native.Mathlib.Omega.{arith}
 use lib.ListN.{length, set}
-use lib.Seq.{slice, slice_empty, slice-cons}
+use lib.Seq.{slice, slice-cons}
 use Rattle.words.specs.Word.{Letter, R, S, Word}
 use Rattle.words.specs.Bytes.{letter, byte, word}
 use Rattle.trees.specs.Tree.{at, word_at}
@@ -93,17 +93,6 @@ grows_swap before after s =
 module _ (bytes : List ℕ) (end count : ℕ) (before : NodeSlices) where
   abbrev pub ReadTo : ℕ → NodeSlices → ℕ → ℕ → Type 0
   ReadTo i after node count' = Grows R S with_suffixes (λ words. word (slice i end bytes)) (end - i) count before after node count'
-
-  pub read_none : ReadTo end before 0 count
-  read_none =
-      record {
-        no_fewer = le_refl count;
-        few = omega arith;
-        remains = remains_same count before;
-        grew =
-            λ words e g.
-            rw (← e, slice_empty end bytes) (stays words before [] 0 g g.nodes.some g.nodes.root);
-      }
 
   module _ (within : end ≤ length bytes) (i : ℕ) (some : 0 < i) (left : i ≤ end) where
     abbrev next : Letter

@@ -17,7 +17,7 @@ use Rattle.trees.specs.Tree.{at, word_at, Child, Tree}
 use Rattle.trees.specs.Numbering.{with_suffixes, with_all, numbered}
 use Rattle.trees.specs.Building.{Fits}
 use Rattle.trees.specs.Ends.{end_before}
-use Rattle.trees.specs.Growing.{NodeSlices, node_slices, NodeWords, ChildrenBy, Grown, RoomFor, Grows, Read}
+use Rattle.trees.specs.Growing.{NodeSlices, node_slices, NodeWords, ChildrenBy, Grown, Grows, Read}
 use Rattle.trees.proofs.Lists.{generators_length, generator_at}
 use Rattle.trees.proofs.Ends.{fits_ends, end_before_within, end_before_next}
 use Rattle.trees.proofs.Behind.{at_same, at_below}
@@ -81,20 +81,6 @@ module _ (bytes ends : List ℕ) where
       (from end : ℕ) (starts : from ≡ end_before ends i) (stops : end ≡ at ends i) where
     pub generator_rises : from ≤ end
     generator_rises = omega (arith, (fits_ends f i h).rises)
-
-    pub generator_within : end ≤ length bytes
-    generator_within = omega (arith, (fits_ends f i h).within)
-
-    pub generator_room : RoomFor (count + (end - from)) (node_slices letters rests children_r children_s)
-    generator_room =
-        let more : count + (end - from) ≤ length bytes + 1 = omega (arith, generator_rises, generator_within, t.few) in
-        record {
-          few = omega (arith, f.few);
-          in_letters = omega (arith, f.room_letters);
-          in_rests = omega (arith, f.room_rests);
-          in_children = omega (arith, f.room_r);
-          in_others = omega (arith, f.room_s);
-        }
 
     whole_word : generator (generators bytes ends) i ≡ word (slice from end bytes)
     whole_word = rw (starts, stops) (generator_at bytes ends i h)

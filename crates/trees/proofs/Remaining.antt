@@ -2,7 +2,6 @@
 use mathlib.Core.Path.{◌≡◌, refl, sym, ap, ◌∙◌}
 use mathlib.Core.List.{List, ◌++◌}
 use Prim.Native.Nat.{ℕ, ◌+◌, ◌-◌, ◌≤◌, ◌<◌}
-use native.Mathlib.Nat.{le_refl}
 use native.Mathlib.Omega.{arith}
 use lib.ListN.{length, take, drop, set, take-append-drop}
 use lib.Seq.{length-take-le, drop-drop, drop-set-lt, get_or-take, ext_get_or}
@@ -45,18 +44,6 @@ remains_more {count} {count'} before mid after h r s =
     }
 
 module _ (letters rests children others : List ℕ) where
-  -- node 0 is made
-  pub remains_root : {rests' children' others' : List ℕ} → rests' ≡ set rests 0 0 → children' ≡ set children 0 0 → others' ≡ set others 0 0
-      → Remains 1 (node_slices letters rests children others) (node_slices letters rests' children' others')
-  remains_root r c o =
-      record {
-        letters = refl;
-        rests = ap (drop 1) r ∙ drop-set-lt 1 rests 0 0 (le_refl 1);
-        children = ap (drop 1) c ∙ drop-set-lt 1 children 0 0 (le_refl 1);
-        others = ap (drop 1) o ∙ drop-set-lt 1 others 0 0 (le_refl 1);
-        root_letter = refl;
-      }
-
   -- a node is added, the child of node p
   pub remains_added : (count p y : ℕ) → p < count
       → Remains (count + 1) (node_slices letters rests children others)

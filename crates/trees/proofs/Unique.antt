@@ -10,8 +10,8 @@ use lib.Seq.{ext_get_or}
 use Rattle.words.specs.Word.{Letter, R, S, Word}
 use Rattle.words.specs.Bytes.{letter}
 use Rattle.products.specs.Product.{generators, Factor}
-use Rattle.trees.specs.declared.Built.{Built}
-use Rattle.trees.specs.declared.Built.TheVariants.{Nodes, Unfit}
+use Rattle.std.specs.Prelude.{Result, Ok, Err}
+use Rattle.trees.specs.declared.Unfit.{Unfit}
 use Rattle.trees.specs.Tree.{at, word_at, Child, Tree}
 use Rattle.trees.specs.Numbering.{numbered}
 use Rattle.trees.specs.Building.{Slices, BuildsTree, Builds}
@@ -95,11 +95,11 @@ module _ {bytes ends : List ℕ} {before after after' : Slices} {count : ℕ} (b
       root l l' first others (suc p) h = others (suc p) (omega arith) h
 
 -- Two outcomes that meet the contract are one: the answer, and all five slices in full.
-pub builds_unique : (bytes ends : List ℕ) (before after after' : Slices) (r r' : Built)
+pub builds_unique : (bytes ends : List ℕ) (before after after' : Slices) (r r' : Result ℕ Unfit)
     → Builds bytes ends before after r → Builds bytes ends before after' r' → (r ≡ r') × (after ≡ after')
-builds_unique bytes ends before after after' (Nodes count) (Nodes count') b b' =
+builds_unique bytes ends before after after' (Ok count) (Ok count') b b' =
     let same : count ≡ count' = sym b.counted ∙ b'.counted in
-    (ap Nodes same, tree_unique b (subst (BuildsTree bytes ends before after') (sym same) b'))
-builds_unique bytes ends before after after' (Nodes count) Unfit b b' = absurd (b'.0 b.fits)
-builds_unique bytes ends before after after' Unfit (Nodes count) b b' = absurd (b.0 b'.fits)
-builds_unique bytes ends before after after' Unfit Unfit b b' = (refl, b.1 ∙ sym b'.1)
+    (ap Ok same, tree_unique b (subst (BuildsTree bytes ends before after') (sym same) b'))
+builds_unique bytes ends before after after' (Ok count) (Err _) b b' = absurd (b'.0 b.fits)
+builds_unique bytes ends before after after' (Err _) (Ok count) b b' = absurd (b.0 b'.fits)
+builds_unique bytes ends before after after' (Err _) (Err _) b b' = (refl, b.1 ∙ sym b'.1)

@@ -1,11 +1,10 @@
 -- What building a tree promises. Assumes nothing: these are definitions.
-use Rattle.std.specs.Prelude.{◌≡◌, List, ℕ, suc, ◌≤◌, ◌<◌, length}
+use Rattle.std.specs.Prelude.{◌≡◌, List, ℕ, suc, ◌≤◌, ◌<◌, length, Result, Ok, Err}
 use Rattle.products.specs.Product.{generators}
 use Rattle.trees.specs.Tree.{at, most_of_entry, Tree}
 use Rattle.trees.specs.Numbering.{numbered}
 use Rattle.trees.specs.Growing.{node_slices, Remains}
-use Rattle.trees.specs.declared.Built.{Built}
-use Rattle.trees.specs.declared.Built.TheVariants.{Nodes, Unfit}
+use Rattle.trees.specs.declared.Unfit.{Unfit}
 
 -- The ends never fall and stay within the letters, and each lent slice has room: for a node more than there are letters, and for just
 -- the generators.
@@ -42,7 +41,7 @@ pub record BuildsTree (bytes ends : List ℕ) (before after : Slices) (count : �
   pub root_rest : at after.rests 0 ≡ 0
 
 -- Where the inputs fit the tree is built, and the answer is how many nodes it has; else nothing changes.
-abbrev pub Builds : List ℕ → List ℕ → Slices → Slices → Built → Type 0
-Builds bytes ends before after (Nodes count) = BuildsTree bytes ends before after count
-Builds bytes ends before after Unfit =
+abbrev pub Builds : List ℕ → List ℕ → Slices → Slices → Result ℕ Unfit → Type 0
+Builds bytes ends before after (Ok count) = BuildsTree bytes ends before after count
+Builds bytes ends before after (Err _) =
     (Fits bytes ends before.letters before.rests before.children_r before.children_s before.wholes → ⊥) × (after ≡ before)

@@ -21,24 +21,14 @@ fn end_fits(ends: &[u16], i: usize, limit: usize) -> bool
     ensures { Tells result (EndFits ends.now limit i) }
 {
     let end = entry(ends, i);
-    if limit < end {
-        return false;
-    }
-    let before = end_before(ends, i);
-    if end < before {
-        return false;
-    }
-    true
+    end_before(ends, i) <= end && end <= limit
 }
 
 fn ends_fit(ends: &[u16], limit: usize) -> bool
     ensures { Tells result (EndsFit ends.now limit) }
 {
-    let mut i = 0;
-    while i < ends.len() {
-        if end_fits(ends, i, limit) {
-            i += 1;
-        } else {
+    for i in 0..ends.len() {
+        if !end_fits(ends, i, limit) {
             return false;
         }
     }
@@ -58,23 +48,11 @@ pub(crate) fn fits(
         (Fits bytes.now ends.now letters.now rests.now
         children_r.now children_s.now wholes.now) }
 {
-    if entries::MOST <= bytes.len() {
-        return false;
-    }
-    if letters.len() <= bytes.len() {
-        return false;
-    }
-    if rests.len() <= bytes.len() {
-        return false;
-    }
-    if children_r.len() <= bytes.len() {
-        return false;
-    }
-    if children_s.len() <= bytes.len() {
-        return false;
-    }
-    if wholes.len() != ends.len() {
-        return false;
-    }
-    ends_fit(ends, bytes.len())
+    bytes.len() < entries::MOST
+        && bytes.len() < letters.len()
+        && bytes.len() < rests.len()
+        && bytes.len() < children_r.len()
+        && bytes.len() < children_s.len()
+        && wholes.len() == ends.len()
+        && ends_fit(ends, bytes.len())
 }

@@ -1,5 +1,6 @@
 // A word is read backwards into the tree: from its last letter to its first, each time from a node to its child by the letter read, which
 // is made where it is missing. 0 stands for no child: node 0, the empty word, is nobody's child.
+// The slices of the nodes are passed one by one, and not as one value: the children by either letter come first, by the letter read.
 ghost use Rattle.std.specs.Prelude.{◌≡◌, ◌∷◌, ◌+◌, ◌-◌, ◌≤◌, ◌<◌, length, set};
 ghost use Rattle.std.proofs.Math.Seq.{slice};
 ghost use Rattle.words.specs.Word.{Letter, R, S};
@@ -71,7 +72,7 @@ fn child_by(
     }
 }
 
-// The child of a node by the letter of a byte: 82 is R, and any other byte is taken for S.
+// The child of a node by the letter of a byte: `b'R'` is R, and any other byte is taken for S.
 fn child(
     letters: &mut [u8],
     rests: &mut [u16],
@@ -87,10 +88,10 @@ fn child(
         (node_slices letters.new rests.new children_r.new children_s.new)
         result.node result.count }
 {
-    if byte == 82 {
-        return child_by(letters, rests, children_r, children_s, place, 82);
+    if byte == b'R' {
+        return child_by(letters, rests, children_r, children_s, place, b'R');
     }
-    child_by(letters, rests, children_s, children_r, place, 83)
+    child_by(letters, rests, children_s, children_r, place, b'S')
 }
 
 // Reads the bytes from `end` down to `from`, and answers where that ends.
@@ -113,9 +114,7 @@ pub(crate) fn read_backwards(
         result.node result.count }
 {
     let mut place = Place { node: 0, count };
-    let mut i = end;
-    while from < i {
-        i -= 1;
+    for i in (from..end).rev() {
         place = child(letters, rests, children_r, children_s, place, bytes[i]);
     }
     place

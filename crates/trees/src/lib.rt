@@ -8,12 +8,21 @@ mod reading;
 
 ghost use Rattle.trees.specs.Building.{Builds};
 
-// The answer of `build`.
+// A tree of suffixes, as it stands in slices: of each of its nodes the letter, the rest, and the children by R and by S; and of each generator the node of the
+// whole of it. Nothing is asked of the slices, which may have more places than there are nodes.
 #[derive(Clone, Copy)]
-pub enum Built {
-    Nodes(usize),
-    Unfit,
+pub struct SuffixTree<'a> {
+    pub count: usize,
+    pub letters: &'a [u8],
+    pub rests: &'a [u16],
+    pub children_r: &'a [u16],
+    pub children_s: &'a [u16],
+    pub wholes: &'a [u16],
 }
+
+// Inputs that do not fit. What answers so has changed nothing.
+#[derive(Clone, Copy)]
+pub struct Unfit;
 
 // Builds the tree of the list's generators in the lent slices, and answers how many nodes it has. The nodes are numbered as they are read; what
 // stands behind them is left, and so is the letter of node 0. Where the inputs do not fit nothing changes.
@@ -25,7 +34,7 @@ pub fn build(
     children_r: &mut [u16],
     children_s: &mut [u16],
     wholes: &mut [u16],
-) -> Built
+) -> Result<usize, Unfit>
     ensures { Builds bytes.now ends.now
         (record {
           letters = letters.old;
@@ -44,8 +53,8 @@ pub fn build(
         result }
 {
     if fitting::fits(bytes, ends, letters, rests, children_r, children_s, wholes) {
-        let count = reading::read_all(bytes, ends, letters, rests, children_r, children_s, wholes);
-        return Built::Nodes(count);
+        Ok(reading::read_all(bytes, ends, letters, rests, children_r, children_s, wholes))
+    } else {
+        Err(Unfit)
     }
-    Built::Unfit
 }

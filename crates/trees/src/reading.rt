@@ -69,12 +69,10 @@ pub(crate) fn read_all(
 {
     make_root(rests, children_r, children_s);
     let mut count = 1;
-    let mut i = 0;
-    while i < ends.len() {
+    for i in 0..ends.len() {
         count = read_generator(
             bytes, ends, i, letters, rests, children_r, children_s, wholes, count,
         );
-        i += 1;
     }
     count
 }

@@ -6,8 +6,8 @@ mod reading;
 mod telling;
 mod waiting;
 
-use reading::Card;
-use showing::Printed;
+use reading::ReadError;
+use showing::PrintError;
 
 // A card of more than limits::CARD_BYTES bytes is noticed by one byte more.
 const CARD: usize = limits::CARD_BYTES + 1;
@@ -23,10 +23,10 @@ fn answer(rt: &HostRuntime, card: &[u8]) {
     let mut witness = [0u8; FACTORS];
     let answer = cards::answer_card(card, &mut first, &mut second, &mut witness);
     match showing::line(&mut rt.stdout(), answer, &witness) {
-        Printed::Whole => {}
-        Printed::FactorsMissing => telling::tell(rt, "the witness lacks factors"),
-        Printed::TooLong => telling::tell(rt, "the line is too long"),
-        Printed::Failed(error) => {
+        Ok(()) => {}
+        Err(PrintError::FactorsMissing) => telling::tell(rt, "the witness lacks factors"),
+        Err(PrintError::TooLong) => telling::tell(rt, "the line is too long"),
+        Err(PrintError::Failed(error)) => {
             telling::tell_failure(rt, rt.alloc(), "the line cannot be written", error);
         }
     }
@@ -35,10 +35,10 @@ fn answer(rt: &HostRuntime, card: &[u8]) {
 fn main(rt: HostRuntime) {
     let mut card = [0u8; CARD];
     match reading::read_card(&rt, &mut rt.stdin(), &mut card) {
-        Card::Bytes(used) => answer(&rt, &card[..used]),
-        Card::Failed(error) => {
+        Ok(used) => answer(&rt, &card[..used]),
+        Err(ReadError::Failed(error)) => {
             telling::tell_failure(&rt, rt.alloc(), "standard input cannot be read", error);
         }
-        Card::Late => telling::tell(&rt, "nothing came for 10 seconds"),
+        Err(ReadError::Late) => telling::tell(&rt, "nothing came for 10 seconds"),
     }
 }

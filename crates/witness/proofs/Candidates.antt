@@ -1,11 +1,11 @@
 -- The ways of an item: there are few, and the parts of a candidate have a series and spell it where they stand alone on a stack.
 --     ways_few                       how many ways there are at most
---     way_pushable .. way_spelled    the parts of a candidate, on a stack
+--     way_pushable, way_spelled      the parts of a candidate, on a stack
 --     way_joined                     their series
 -- Assumes nothing.
 use mathlib.Core.Bool.{Bool, true, false}
 use mathlib.Core.Logic.{inl, inr}
-use mathlib.Core.Path.{◌≡◌, sym, subst}
+use mathlib.Core.Path.{◌≡◌, subst}
 use mathlib.Core.List.{List, [], ◌∷◌, ◌++◌, append-nil}
 use Prim.Native.Nat.{ℕ, zero, suc, ◌+◌, ◌*◌, ◌≤◌}
 use native.Mathlib.Omega.{arith}
@@ -20,9 +20,9 @@ use Rattle.derivations.specs.declared.Parts.{Parts}
 use Rattle.derivations.specs.declared.Parts.TheVariants.{One, Two, Nothing}
 use Rattle.derivations.proofs.Ways.{factor_weight}
 use Rattle.witness.specs.Choices.{choice_at, Small, Done, PartsDone, AllSettled}
-use Rattle.witness.specs.Stacks.{stacked, items_of, Entries, Spelled, none, Ready, Standing}
+use Rattle.witness.specs.Stacks.{items_of, Entries, Spelled, none}
 use Rattle.witness.specs.Choosing.{Choosable}
-use Rattle.witness.proofs.Parted.{parts_weigh, parts_ready, parts_entries, parts_few, parts_join}
+use Rattle.witness.proofs.Parted.{parts_entries, parts_few, parts_join}
 
 -- ---- how many ways there are
 
@@ -55,7 +55,7 @@ module _ (w : World) (choice : ℕ → ℕ → ℕ) (settled : AllSettled w choi
 
 -- ---- the parts of a candidate
 
-module _ {w : World} {choices xs ys us vs : List ℕ} {x y : ℕ} (k : Choosable w choices xs ys us vs x y)
+module _ {w : World} {choices : List ℕ} {x y : ℕ} (k : Choosable w choices x y)
     (d : ℕ) (c : Candidate (parts_in w) (weight_in w) x y d) where
   abbrev choice : ℕ → ℕ → ℕ
   choice = choice_at w.count choices
@@ -63,29 +63,12 @@ module _ {w : World} {choices xs ys us vs : List ℕ} {x y : ℕ} (k : Choosable
   pub way_joined : (r : List ℕ) × Joins (parts_in w) (weight_in w) (parts_in w x y d) r
   way_joined = parts_joined w choice k.settled x y (parts_in w x y d) c.tight (k.done d c)
 
-  module _ (ps : Parts) (is : ps ≡ parts_in w x y d) where
+  module _ (ps : Parts) (is_parts : ps ≡ parts_in w x y d) where
     tight_parts : Tight (weight_in w) x y ps
-    tight_parts = rw is c.tight
+    tight_parts = rw is_parts c.tight
 
-    done_parts : PartsDone w choice ps
-    done_parts = rw is (k.done d c)
+    pub way_pushable : (length (items_of ps) + 0 ≤ most_factors) × Entries (items_of ps)
+    way_pushable = (omega (arith, parts_few w x y ps tight_parts, k.light), parts_entries w x y k.small ps tight_parts)
 
-    pub way_pushable : (m n : ℕ) → most_factors ≤ m → most_factors ≤ n
-        → (0 + length (items_of ps) ≤ m) × (0 + length (items_of ps) ≤ n) × Entries (items_of ps)
-    way_pushable m n room_x room_y =
-        let few : length (items_of ps) ≤ most_factors = omega (arith, parts_few w x y ps tight_parts, k.light) in
-        (omega arith, omega arith, parts_entries w x y k.small ps tight_parts)
-
-    pub way_standing : (xs ys : List ℕ) (height : ℕ) → most_factors ≤ length xs → most_factors ≤ length ys → stacked xs ys height ≡ items_of ps ++ []
-        → Standing w choice xs ys height
-    way_standing xs ys height room_x room_y e =
-        record {
-          room_x = room_x;
-          room_y = room_y;
-          ready = subst (Ready w choice) (sym e) (parts_ready w x y [] choice ps tight_parts done_parts tt);
-          light = rw e (omega (arith, parts_weigh w x y [] ps tight_parts, k.light));
-        }
-
-    pub way_spelled : (items : List (ℕ × ℕ)) (r : List ℕ) → items ≡ items_of ps ++ [] → Joins (parts_in w) (weight_in w) (parts_in w x y d) r
-        → Spelled w items r
-    way_spelled items r e j = rw e (subst (Spelled w (items_of ps ++ [])) (append-nil r) (parts_join w x y [] ps r [] (rw is j) none))
+    pub way_spelled : (is : List (ℕ × ℕ)) (r : List ℕ) → is ≡ items_of ps ++ [] → Joins (parts_in w) (weight_in w) (parts_in w x y d) r → Spelled w is r
+    way_spelled is r e j = rw e (subst (Spelled w (items_of ps ++ [])) (append-nil r) (parts_join w x y [] ps r [] (rw is_parts j) none))

@@ -1,36 +1,26 @@
 -- Two stacks of items, compared by their tops.
 --     answers_none, answers_none_other         where one stack is empty the first is not before the second
---     goes_on_first, goes_on_second            one of them is taken apart
---     going_on_none, going_on_then             no step, and a step behind others
---     step_falls, answers_over                 what a step that goes on costs, and what one that does not answers
---     either_some, tells_ltb                   for the tests that are asked of the tops
---     first_on_top, second_on_top              an item on top that is no factor
+--     popped                                   an item that is looked at and then taken off
 --     answers_differ                           two factors on top that differ decide
 --     goes_on_same                             both drop the same item
 -- Assumes nothing.
-use mathlib.Core.Bool.{Bool, true, false, false≢true}
-use mathlib.Core.Path.{◌≡◌, refl, ap, subst}
+use mathlib.Core.Bool.{Bool, false}
+use mathlib.Core.Path.{◌≡◌, refl, subst}
 use mathlib.Core.List.{List, [], ◌∷◌, ◌++◌}
-use Prim.Native.Nat.{ℕ, ◌+◌, ◌-◌, ◌<◌}
+use Prim.Native.Nat.{ℕ, ◌<◌}
 use native.Mathlib.Omega.{arith}
-use lib.Dec.{ltb}
-use borrow.Author.Tests.{ltb-true, lt-ltb}
-use Rattle.refusals.specs.Telling.{Tells, pick}
+use lib.ListN.{length}
+use Rattle.refusals.specs.Telling.{Tells}
 use Rattle.refusals.proofs.Telling.{tells_same}
 use Rattle.products.specs.Product.{Before, smaller, further}
 use Rattle.products.proofs.Order.{before_behind}
-use Rattle.trees.specs.Tree.{at}
 use Rattle.derivations.specs.Derivations.{Firsts, factor, chosen}
 use Rattle.derivations.specs.Ways.{World, parts_in, weight_in, highest}
 use Rattle.derivations.proofs.Series.{firsts_unique}
 use Rattle.derivations.proofs.Steps.{steps_some}
-use Rattle.witness.specs.Stacks.{stacked, weight_of, steps_left, none, more, Ready, Standing, TakenApart}
-use Rattle.witness.specs.Comparing.{Answers, TopsTell, GoingOn, GoesOn, Compares}
-use Rattle.witness.specs.declared.comparing.Compared.{Compared}
-use Rattle.witness.specs.declared.comparing.Compared.TheVariants.{On, Over}
-use Rattle.witness.specs.declared.comparing.Tops.{Tops}
-use Rattle.witness.specs.declared.comparing.Tops.TheVariants.{Same, Differ, First, Second}
-use Rattle.witness.proofs.Stacked.{stacked_top}
+use Rattle.witness.specs.Stacks.{steps_left, none, more, Standing}
+use Rattle.witness.specs.Comparing.{Answers, TopsTell, GoesOn}
+use Rattle.witness.specs.declared.comparing.Tops.TheVariants.{Same, Differ}
 
 -- what stands in front of both does not matter
 before_tails : (i j : ℕ) {r s : List ℕ} → i ≡ j → Before (i ∷ r) (j ∷ s) → Before r s
@@ -54,18 +44,9 @@ none_before : (r : List ℕ) → Before r [] → ⊥
 none_before [] b = elim b [ ]
 none_before (i ∷ r) b = elim b [ ]
 
--- whichever is picked
-pub either_some : (t : Bool) (x u : ℕ) → 0 < x → 0 < u → 0 < pick t x u
-either_some true x u h k = h
-either_some false x u h k = k
-
--- what a comparison of two numbers tells
-pub tells_ltb : (a b : ℕ) → Tells (ltb a b) (a < b)
-tells_ltb a b = by (ltb a b) (ltb-true a b) (lt-ltb a b)
-  where
-    by : (t : Bool) → (t ≡ true → a < b) → (a < b → t ≡ true) → Tells t (a < b)
-    by true less back = less refl
-    by false less back = λ l. false≢true (back l)
+length-zero : (is : List (ℕ × ℕ)) → length is ≡ 0 → is ≡ []
+length-zero [] e = refl
+length-zero (i ∷ is) e = absurd (omega arith)
 
 module _ (w : World) where
   -- ---- what the tops of two lists of items tell
@@ -89,134 +70,42 @@ module _ (w : World) where
   same_dropped x y is js b answers r s (more {r = p} {s = r'} f spelled) (more {r = q} {s = s'} g spelled') =
       rw (← firsts_unique (parts_in w) (weight_in w) f g) (tells_same b (before_behind p) (before_rest p) (answers r' s' spelled spelled'))
 
-  -- ---- a stack without its top
+-- ---- a stack is empty
 
-  module _ (choice : ℕ → ℕ → ℕ) (xs ys : List ℕ) (height x y : ℕ) (on_top : stacked xs ys height ≡ (x, y) ∷ stacked xs ys (height - 1))
-      (standing : Standing w choice xs ys height) where
-    ready : Ready w choice ((x, y) ∷ stacked xs ys (height - 1))
-    ready = subst (Ready w choice) on_top standing.ready
+module _ {w : World} {is js : List (ℕ × ℕ)} where
+  pub answers_none : length is ≡ 0 → Answers w is js false
+  answers_none e = rw (length-zero is e) (none_first w js)
 
-    standing_rest : Standing w choice xs ys (height - 1)
-    standing_rest =
-        record {
-          room_x = standing.room_x;
-          room_y = standing.room_y;
-          ready = ready.2;
-          light = omega (arith, ap (weight_of w) on_top, standing.light);
-        }
-
-    rest_falls : steps_left w (stacked xs ys (height - 1)) < steps_left w (stacked xs ys height)
-    rest_falls = rw on_top (omega (arith, steps_some (highest w) (weight_in w x y) x ready.0))
-
--- ---- the stacks
-
-module _ {w : World} {choice : ℕ → ℕ → ℕ} {xs ys us vs : List ℕ} {height other : ℕ} where
-  pub answers_none : Standing w choice xs ys height → Standing w choice us vs other → height ≡ 0
-      → Answers w (stacked xs ys height) (stacked us vs other) false
-  answers_none first second e = rw e (none_first w (stacked us vs other))
-
-  pub answers_none_other : Standing w choice xs ys height → Standing w choice us vs other → other ≡ 0
-      → Answers w (stacked xs ys height) (stacked us vs other) false
-  answers_none_other first second e = rw e (none_second w (stacked xs ys height))
-
-  pub goes_on_first : {xs₁ ys₁ : List ℕ} {height₁ : ℕ} → TakenApart w choice xs ys height xs₁ ys₁ height₁ → Standing w choice us vs other
-      → GoesOn w choice xs ys us vs height other xs₁ ys₁ us vs height₁ other
-  goes_on_first taken second =
-      record {
-        on = record {
-          first = taken.standing;
-          second = second;
-          same = λ b answers r s spelled spelled'. answers r s (taken.spells r spelled) spelled';
-        };
-        falls = omega (arith, taken.falls);
-      }
-
-  pub goes_on_second : {us₁ vs₁ : List ℕ} {other₁ : ℕ} → Standing w choice xs ys height → TakenApart w choice us vs other us₁ vs₁ other₁
-      → GoesOn w choice xs ys us vs height other xs ys us₁ vs₁ height other₁
-  goes_on_second first taken =
-      record {
-        on = record {
-          first = first;
-          second = taken.standing;
-          same = λ b answers r s spelled spelled'. answers r s spelled (taken.spells s spelled');
-        };
-        falls = omega (arith, taken.falls);
-      }
-
--- ---- the loop: no step, a step behind others, and the answer
-
-module _ {w : World} {choice : ℕ → ℕ → ℕ} {xs ys us vs : List ℕ} {height other : ℕ} where
-  pub going_on_none : Standing w choice xs ys height → Standing w choice us vs other
-      → GoingOn w choice xs ys us vs height other xs ys us vs height other
-  going_on_none first second = record { first = first; second = second; same = λ b answers. answers }
-
-  module _ {xs₁ ys₁ us₁ vs₁ : List ℕ} {height₁ other₁ : ℕ} (so_far : GoingOn w choice xs ys us vs height other xs₁ ys₁ us₁ vs₁ height₁ other₁)
-      (xs₂ ys₂ us₂ vs₂ : List ℕ) (compared : Compared) (step : Compares w choice xs₁ ys₁ us₁ vs₁ height₁ other₁ compared xs₂ ys₂ us₂ vs₂) where
-    step_on : (a b : ℕ) → compared ≡ On a b → GoesOn w choice xs₁ ys₁ us₁ vs₁ height₁ other₁ xs₂ ys₂ us₂ vs₂ a b
-    step_on a b e = subst (λ (t : Compared). Compares w choice xs₁ ys₁ us₁ vs₁ height₁ other₁ t xs₂ ys₂ us₂ vs₂) e step
-
-    pub going_on_then : (a b : ℕ) → compared ≡ On a b → GoingOn w choice xs ys us vs height other xs₂ ys₂ us₂ vs₂ a b
-    going_on_then a b e =
-        let on = (step_on a b e).on in
-        record { first = on.first; second = on.second; same = λ t answers. so_far.same t (on.same t answers) }
-
-    pub step_falls : (a b : ℕ) → compared ≡ On a b
-        → steps_left w (stacked xs₂ ys₂ a) + steps_left w (stacked us₂ vs₂ b)
-        < steps_left w (stacked xs₁ ys₁ height₁) + steps_left w (stacked us₁ vs₁ other₁)
-    step_falls a b e = (step_on a b e).falls
-
-    pub answers_over : (t : Bool) → compared ≡ Over t → Answers w (stacked xs ys height) (stacked us vs other) t
-    answers_over t e = so_far.same t (subst (λ (k : Compared). Compares w choice xs₁ ys₁ us₁ vs₁ height₁ other₁ k xs₂ ys₂ us₂ vs₂) e step)
+  pub answers_none_other : length js ≡ 0 → Answers w is js false
+  answers_none_other e = rw (length-zero js e) (none_second w is)
 
 -- ---- the tops
 
--- Two stacks that are not empty, with the items (x, y) and (u, v) on top.
-pub record Both (w : World) (choice : ℕ → ℕ → ℕ) (xs ys us vs : List ℕ) (height other x y u v : ℕ) : Type 0 where
-  pub first : Standing w choice xs ys height
-  pub second : Standing w choice us vs other
-  pub some : (0 < height) × (0 < other)
-  pub at_x : x ≡ at xs (height - 1)
-  pub at_y : y ≡ at ys (height - 1)
-  pub at_u : u ≡ at us (other - 1)
-  pub at_v : v ≡ at vs (other - 1)
+-- what was looked at is what is taken off
+pub popped : {is below left : List (ℕ × ℕ)} {i j : ℕ × ℕ} → is ≡ i ∷ below → is ≡ j ∷ left → is ≡ i ∷ left
+popped e f = cc
 
-module _ {w : World} {choice : ℕ → ℕ → ℕ} {xs ys us vs : List ℕ} {height other x y u v : ℕ}
-    (both : Both w choice xs ys us vs height other x y u v) where
-  on_first : stacked xs ys height ≡ (x, y) ∷ stacked xs ys (height - 1)
-  on_first = rw (both.at_x, both.at_y) (stacked_top xs ys height both.some.0)
+module _ {w : World} {choice : ℕ → ℕ → ℕ} {x y : ℕ} {is : List (ℕ × ℕ)} (standing : Standing w choice ((x, y) ∷ is)) where
+  standing_rest : Standing w choice is
+  standing_rest = record { ready = standing.ready.2; light = omega (arith, standing.light) }
 
-  on_second : stacked us vs other ≡ (u, v) ∷ stacked us vs (other - 1)
-  on_second = rw (both.at_u, both.at_v) (stacked_top us vs other both.some.1)
+  rest_falls : steps_left w is < steps_left w ((x, y) ∷ is)
+  rest_falls = omega (arith, steps_some (highest w) (weight_in w x y) x standing.ready.0)
 
-  -- what is told of the tops
-  module _ {tops : Tops} (tell : TopsTell x y u v tops) where
-    pub first_on_top : tops ≡ First → 0 < at xs (height - 1)
-    first_on_top e = let some : 0 < x = subst (TopsTell x y u v) e tell in omega (arith, both.at_x)
+module _ {w : World} {x y u v : ℕ} {is js below under : List (ℕ × ℕ)} (first : is ≡ (x, y) ∷ below) (second : js ≡ (u, v) ∷ under) where
+  pub answers_differ : (b : Bool) → TopsTell x y u v (Differ b) → Answers w is js b
+  answers_differ b told = rw (first, second, told.0, told.1) (factors_differ w y v below under b told.2 told.3)
 
-    pub second_on_top : tops ≡ Second → 0 < at us (other - 1)
-    second_on_top e = let some : 0 < u = subst (TopsTell x y u v) e tell in omega (arith, both.at_u)
-
-    pub answers_differ : (b : Bool) → tops ≡ Differ b → Answers w (stacked xs ys height) (stacked us vs other) b
-    answers_differ b e =
-        let told : TopsTell x y u v (Differ b) = subst (TopsTell x y u v) e tell in
-        rw (on_first, on_second, told.0, told.1) (factors_differ w y v (stacked xs ys (height - 1)) (stacked us vs (other - 1)) b told.2 told.3)
-
-    pub goes_on_same : tops ≡ Same → GoesOn w choice xs ys us vs height other xs ys us vs (height - 1) (other - 1)
-    goes_on_same e =
-        record {
-          on = record {
-            first = standing_rest w choice xs ys height x y on_first both.first;
-            second = standing_rest w choice us vs other u v on_second both.second;
-            same = same (subst (TopsTell x y u v) e tell);
-          };
-          falls = omega (
-            arith,
-            rest_falls w choice xs ys height x y on_first both.first,
-            rest_falls w choice us vs other u v on_second both.second,
-          );
-        }
-      where
-        same : TopsTell x y u v Same → (b : Bool) → Answers w (stacked xs ys (height - 1)) (stacked us vs (other - 1)) b
-            → Answers w (stacked xs ys height) (stacked us vs other) b
-        same told b answers =
-            rw (on_first, on_second, told.0, told.1) (same_dropped w u v (stacked xs ys (height - 1)) (stacked us vs (other - 1)) b answers)
+  pub goes_on_same : {choice : ℕ → ℕ → ℕ} → Standing w choice is → Standing w choice js → TopsTell x y u v Same → GoesOn w choice is js below under
+  goes_on_same {choice} standing standing' told = rw (first, second) (dropped (subst (Standing w choice) first standing) (subst (Standing w choice) second standing'))
+    where
+      dropped : Standing w choice ((x, y) ∷ below) → Standing w choice ((u, v) ∷ under) → GoesOn w choice ((x, y) ∷ below) ((u, v) ∷ under) below under
+      dropped a b =
+          record {
+            on = record {
+              first = standing_rest a;
+              second = standing_rest b;
+              same = λ t answers. rw (told.0, told.1) (same_dropped w u v below under t answers);
+            };
+            falls = omega (arith, rest_falls a, rest_falls b);
+          }

@@ -6,22 +6,20 @@
 -- Assumes nothing.
 use mathlib.Core.Path.{◌≡◌, refl, sym, ap, subst, ◌∙◌}
 use mathlib.Core.List.{List, [], ◌∷◌, ◌++◌, append-nil, append_assoc}
-use Prim.Native.Nat.{ℕ, ◌+◌, ◌-◌, ◌≤◌, ◌<◌}
+use Prim.Native.Nat.{ℕ, ◌+◌, ◌≤◌, ◌<◌}
 use native.Mathlib.Numerals.{add-one}
 use native.Mathlib.Omega.{arith}
 use lib.ListN.{length, take, drop, set, length-set, length-append}
 use lib.Seq.{length-take-le, take-suc-set, drop-set-lt, drop-drop}
 use Rattle.limits.specs.Limits.{most_factors}
-use Rattle.trees.specs.Tree.{at}
 use Rattle.derivations.specs.Derivations.{Firsts, factor, chosen}
 use Rattle.derivations.specs.Ways.{World, parts_in, weight_in}
 use Rattle.derivations.proofs.Series.{firsts_length}
 use Rattle.derivations.proofs.Ways.{factor_weight}
 use Rattle.witness.specs.Choices.{Done, Small}
-use Rattle.witness.specs.Stacks.{stacked, weight_of, steps_left, Spelled, none, more, Ready, Standing, TakenApart}
+use Rattle.witness.specs.Stacks.{steps_left, Spelled, none, more, Standing, TakenApart}
 use Rattle.witness.specs.Spelling.{Halfway, Further}
 use Rattle.witness.specs.Witness.{Spells}
-use Rattle.witness.proofs.Stacked.{stacked_top}
 
 -- a factor on top spells itself
 spelled_factor : (w : World) (j : ℕ) (is : List (ℕ × ℕ)) (r : List ℕ) → Spelled w ((0, j) ∷ is) r → (s : List ℕ) × (r ≡ j ∷ s) × Spelled w is s
@@ -35,17 +33,11 @@ drop_one_more : (k : ℕ) (a b : List ℕ) → drop k a ≡ drop k b → drop (k
 drop_one_more k a b e = sym (drop-drop 1 k a) ∙ ap (drop 1) e ∙ drop-drop 1 k b
 
 module _ (w : World) (choice : ℕ → ℕ → ℕ) where
-  pub halfway_start : (x y : ℕ) (r xs ys witness : List ℕ) (height : ℕ) → 1 ≤ weight_in w x y → Done w choice x y → weight_in w x y ≤ most_factors
-      → most_factors ≤ length xs → most_factors ≤ length ys → weight_in w x y ≤ length witness → Firsts (parts_in w) (weight_in w) x y r
-      → stacked xs ys height ≡ (x, y) ∷ [] → Halfway w choice witness r xs ys witness height 0
-  halfway_start x y r xs ys witness height some done light room_x room_y room f e =
+  pub halfway_start : (x y : ℕ) (r witness : List ℕ) (is : List (ℕ × ℕ)) → 1 ≤ weight_in w x y → Done w choice x y → weight_in w x y ≤ most_factors
+      → weight_in w x y ≤ length witness → Firsts (parts_in w) (weight_in w) x y r → is ≡ (x, y) ∷ [] → Halfway w choice witness r is witness 0
+  halfway_start x y r witness is some done light room f e =
       record {
-        standing = record {
-          room_x = room_x;
-          room_y = room_y;
-          ready = rw e (some, done, tt);
-          light = rw e (omega (arith, light));
-        };
+        standing = record { ready = rw e (some, done, tt); light = rw e (omega (arith, light)) };
         rest = r;
         spelled = rw e (subst (Spelled w ((x, y) ∷ [])) (append-nil r) (more f none));
         series = refl;
@@ -54,9 +46,10 @@ module _ (w : World) (choice : ℕ → ℕ → ℕ) where
         behind = refl;
       }
 
-  pub halfway_done : (x y : ℕ) (old r xs ys witness : List ℕ) (height written : ℕ) → Firsts (parts_in w) (weight_in w) x y r → height ≤ 0
-      → Halfway w choice old r xs ys witness height written → Spells w x y written old witness
-  halfway_done x y old r xs ys witness height written f low half =
+  pub halfway_done : (x y : ℕ) (old r : List ℕ) (is : List (ℕ × ℕ)) (witness : List ℕ) (written : ℕ) → Firsts (parts_in w) (weight_in w) x y r
+      → length is ≤ 0 → Halfway w choice old r is witness written → Spells w x y written old witness
+  halfway_done x y old r (i ∷ is) witness written f low half = absurd (omega arith)
+  halfway_done x y old r [] witness written f low half =
       record {
         firsts = subst (Firsts (parts_in w) (weight_in w) x y) (sym all) f;
         counts = omega (arith, firsts_length (parts_in w) (weight_in w) f, ap length all, length-take-le written witness half.within);
@@ -64,20 +57,15 @@ module _ (w : World) (choice : ℕ → ℕ → ℕ) where
         rest = half.behind;
       }
     where
-      empty : height ≡ 0
-      empty = omega arith
-
-      nothing : half.rest ≡ []
-      nothing = spelled_none w half.rest (subst (λ (h : ℕ). Spelled w (stacked xs ys h) half.rest) empty half.spelled)
-
       all : take written witness ≡ r
-      all = sym (append-nil (take written witness)) ∙ ap (λ (s : List ℕ). take written witness ++ s) (sym nothing) ∙ half.series
+      all =
+          sym (append-nil (take written witness)) ∙ ap (λ (s : List ℕ). take written witness ++ s) (sym (spelled_none w half.rest half.spelled))
+          ∙ half.series
 
-  pub further_apart : {xs ys witness : List ℕ} {height written : ℕ} {xs₁ ys₁ : List ℕ} {height₁ : ℕ} → TakenApart w choice xs ys height xs₁ ys₁ height₁
-      → Further w choice xs ys witness height written xs₁ ys₁ witness height₁ written
-  further_apart {xs} {ys} {witness} {height} {written} {xs₁} {ys₁} {height₁} apart = record { spells = on; falls = apart.falls }
+  pub further_apart : {is is₁ : List (ℕ × ℕ)} {witness : List ℕ} {written : ℕ} → TakenApart w choice is is₁ → Further w choice is witness written is₁ witness written
+  further_apart {is} {is₁} {witness} {written} apart = record { spells = on; falls = apart.falls }
     where
-      on : (old r : List ℕ) → Halfway w choice old r xs ys witness height written → Halfway w choice old r xs₁ ys₁ witness height₁ written
+      on : (old r : List ℕ) → Halfway w choice old r is witness written → Halfway w choice old r is₁ witness written
       on old r half =
           record {
             standing = apart.standing;
@@ -91,39 +79,20 @@ module _ (w : World) (choice : ℕ → ℕ → ℕ) where
 
   -- ---- a factor is on top
 
-  module _ (xs ys witness : List ℕ) (height written j : ℕ) (some : 0 < height) (is_factor : at xs (height - 1) ≡ 0) (is : j ≡ at ys (height - 1)) where
-    abbrev below : List (ℕ × ℕ)
-    below = stacked xs ys (height - 1)
-
-    on_top : stacked xs ys height ≡ (0, j) ∷ below
-    on_top =
-        stacked_top xs ys height some
-        ∙ ap (λ (a : ℕ). (a, at ys (height - 1)) ∷ below) is_factor
-        ∙ ap (λ (b : ℕ). (0, b) ∷ below) (sym is)
-
-    module _ (standing : Standing w choice xs ys height) where
-      ready : Ready w choice ((0, j) ∷ below)
-      ready = subst (Ready w choice) on_top standing.ready
-
+  module _ (witness : List ℕ) (written j : ℕ) (below : List (ℕ × ℕ)) where
+    module _ (standing : Standing w choice ((0, j) ∷ below)) where
       weighs_one : (weight_in w 0 j ≡ 1) × (j < length w.wholes)
-      weighs_one = factor_weight w j ready.0
+      weighs_one = factor_weight w j standing.ready.0
 
-      standing_below : Standing w choice xs ys (height - 1)
-      standing_below =
-          let light : weight_of w ((0, j) ∷ below) ≤ most_factors = subst (λ (is : List (ℕ × ℕ)). weight_of w is ≤ most_factors) on_top standing.light in
-          record {
-            room_x = standing.room_x;
-            room_y = standing.room_y;
-            ready = ready.2;
-            light = omega arith;
-          }
+      standing_below : Standing w choice below
+      standing_below = record { ready = standing.ready.2; light = omega (arith, standing.light) }
 
-      falls_below : steps_left w below < steps_left w (stacked xs ys height)
-      falls_below = rw (on_top, weighs_one.0) (omega arith)
+      falls_below : steps_left w below < steps_left w ((0, j) ∷ below)
+      falls_below = rw weighs_one.0 (omega arith)
 
-    module _ {old r : List ℕ} (half : Halfway w choice old r xs ys witness height written) where
+    module _ {old r : List ℕ} (half : Halfway w choice old r ((0, j) ∷ below) witness written) where
       split : (s : List ℕ) × (half.rest ≡ j ∷ s) × Spelled w below s
-      split = spelled_factor w j below half.rest (subst (λ (is : List (ℕ × ℕ)). Spelled w is half.rest) on_top half.spelled)
+      split = spelled_factor w j below half.rest half.spelled
 
       rejoined : take written witness ++ j ∷ split.0 ≡ r
       rejoined = ap (λ (s : List ℕ). take written witness ++ s) (sym split.1) ∙ half.series
@@ -141,7 +110,7 @@ module _ (w : World) (choice : ℕ → ℕ → ℕ) where
       pub factor_room : {choices : List ℕ} → Small w choices → (written < length witness) × (j < 256)
       factor_room small = (room_left, omega (arith, (weighs_one half.standing).1, small.numbers))
 
-      halfway_below : Halfway w choice old r xs ys (set witness written j) (height - 1) (written + 1)
+      halfway_below : Halfway w choice old r below (set witness written j) (written + 1)
       halfway_below =
           record {
             standing = standing_below half.standing;
@@ -153,6 +122,5 @@ module _ (w : World) (choice : ℕ → ℕ → ℕ) where
             behind = drop-set-lt (written + 1) witness written j (omega arith) ∙ drop_one_more written witness old half.behind;
           }
 
-    pub further_factor : {witness₁ : List ℕ} {written₁ : ℕ} → Standing w choice xs ys height → witness₁ ≡ set witness written j → written₁ ≡ written + 1
-        → Further w choice xs ys witness height written xs ys witness₁ (height - 1) written₁
-    further_factor standing e f = rw (e, f) (record { spells = λ old r half. halfway_below half; falls = falls_below standing })
+    pub further_factor : Standing w choice ((0, j) ∷ below) → Further w choice ((0, j) ∷ below) witness written below (set witness written j) (written + 1)
+    further_factor standing = record { spells = λ old r half. halfway_below half; falls = falls_below standing }

@@ -1,27 +1,23 @@
 -- A sweep that marks goes down through the weights and the places.
---     place_sought                     the item at a place can be sought
 --     marks_none, marks_then           it stays, or goes on
---     passes_on, passes_one, marks_on  it passes places at which nothing is due, or marks the item at one
+--     passes_on, marks_on              it passes places at which nothing is due, or marks the item at one
 --     weight_begins                    it goes on to the next weight
 --     marking_begins                   it begins where only the target's item is needed
 -- Assumes nothing.
 use mathlib.Core.Logic.{inl, inr}
 use mathlib.Core.Path.{◌≡◌, refl, sym, ap, ap₂, subst, ◌∙◌}
 use mathlib.Core.List.{List}
-use Prim.Native.Nat.{ℕ, ◌+◌, ◌-◌, ◌*◌, ◌≤◌}
+use Prim.Native.Nat.{ℕ, ◌+◌, ◌-◌, ◌≤◌}
 use native.Mathlib.Decide.{dec_lt, ℕ_discrete}
-use native.Mathlib.Nat.{mul-le-mul}
 use native.Mathlib.Omega.{arith}
 use lib.ListN.{length, drop, set, replicate, length-append, length-drop, length-replicate, get_or-replicate, get_or-append}
 use lib.Seq.{drop_at}
-use Rattle.limits.specs.Limits.{most_letters, most_states}
 use Rattle.slices.specs.Slices.{overwritten}
-use Rattle.trees.specs.Tree.{most_of_entry}
 use Rattle.tables.specs.Rules.{place}
-use Rattle.derivations.specs.Ways.{World, weight_in, highest, whole}
-use Rattle.witness.specs.Choices.{needed, marked, choice_at, cells, Item, Small}
+use Rattle.derivations.specs.Ways.{World, weight_in, whole}
+use Rattle.witness.specs.Choices.{needed, marked, choice_at, cells, Item}
 use Rattle.witness.specs.Marking.{Keeps, Marks}
-use Rattle.witness.specs.Due.{DueAt, SomeDue}
+use Rattle.witness.specs.Due.{SomeDue}
 use Rattle.witness.specs.Sweeping.{place_of, swept, Below, MarkState, unwanted, pending, closed, Marking, MarksTo}
 use Rattle.witness.proofs.Places.{Same, same_or_other, of_same, item_place, item_weight, item_swept, same_place}
 use Rattle.witness.proofs.Places.{choice_stored, choice_elsewhere, keeps_none, keeps_then, keeps_stored, whole_item}
@@ -30,15 +26,6 @@ use Rattle.witness.proofs.Marks.{Change, More, closed_more, grows_more}
 
 module _ (w : World) where
   -- ---- where the sweep stands
-
-  -- the item at each place can be sought from each row
-  pub place_sought : {choices : List ℕ} → Small w choices → (x p : ℕ) → 1 ≤ x → x ≤ highest w → p ≤ swept w
-      → ((1 ≤ w.count) × (w.count ≤ most_of_entry)) × (((1 ≤ x) × (x ≤ most_of_entry)) × (p ≤ most_of_entry * most_of_entry))
-  place_sought small x p some row inside =
-      let nodes : w.count ≤ most_states = small.few in
-      let short = small.short in
-      let rows : highest w ≤ most_states + most_letters = omega arith in
-      ((small.some, omega arith), ((some, omega arith), omega (arith, mul-le-mul rows nodes)))
 
   pub marks_none : {k p : ℕ} {choices : List ℕ} → Marking w k p choices → MarksTo w k p choices choices
   marks_none marking = record { keeps = keeps_none w; marking = marking }
@@ -83,12 +70,6 @@ module _ (w : World) where
   pub passes_on : {before after : List ℕ} (k p' p : ℕ) → (SomeDue needed k after w.counts p' p → ⊥) → MarksTo w k p before after
       → MarksTo w k p' before after
   passes_on k p' p none so_far = record { keeps = so_far.keeps; marking = marking_passes k p' p none so_far.marking }
-
-  -- and not at one place
-  pub passes_one : {before after : List ℕ} (k p : ℕ) → 1 ≤ p → (DueAt needed k after w.counts (p - 1) → ⊥) → MarksTo w k p before after
-      → MarksTo w k (p - 1) before after
-  passes_one {after} k p some none so_far =
-      passes_on k (p - 1) p (λ (q, behind, inside, due). none (subst (DueAt needed k after w.counts) (omega arith) due)) so_far
 
   -- ---- an item is marked
 

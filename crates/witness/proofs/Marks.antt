@@ -2,10 +2,10 @@
 --     need_factor, need_wanted, need_new    an item that becomes needed, by cases
 --     grows_none, grows_then                growth composes
 --     wanted-more, closed_more, grows_more  what is wanted stays so
---     marks_tight, marks_loose              one way of an item
---     ways_none, ways_more, ways_decided, ways_all    and one after the other, until the item is decided or no way is left
+--     marks_tight                           one way of an item
+--     ways_more, ways_decided, ways_all     and one after the other, until the item is decided or no way is left
 -- Assumes nothing.
-use mathlib.Core.Bool.{Bool, true, false, false≢true}
+use mathlib.Core.Bool.{Bool, true}
 use mathlib.Core.Logic.{◌⊎◌, inl, inr}
 use mathlib.Core.Path.{◌≡◌, refl, sym, subst, ◌∙◌}
 use mathlib.Core.List.{List}
@@ -155,18 +155,12 @@ module _ (w : World) where
         let (grows, wanted) = need_all before (parts_in w x y d) room (tight_lower w x y (parts_in w x y d) tight) in
         subst (MarksWay w x y d before r) (sym written) record { grows = grows; wanted = λ t. wanted; decided = λ e. (tight, alone e) }
 
-    pub marks_loose : {choices : List ℕ} (d : ℕ) → (Tight (weight_in w) x y (parts_in w x y d) → ⊥) → MarksWay w x y d choices false choices
-    marks_loose d loose = record { grows = grows_none x y; wanted = λ t. absurd (loose t); decided = λ e. absurd (false≢true e) }
-
     -- ---- all ways below d
 
     -- the parts in ways below d are wanted where they are tight
     pub record WaysMarked (d : ℕ) (before after : List ℕ) : Type 0 where
       pub grows : Grows w x y before after
       pub wanted : (e : ℕ) → e < d → Tight (weight_in w) x y (parts_in w x y e) → PartsWanted (choice_at w.count after) (parts_in w x y e)
-
-    pub ways_none : {choices : List ℕ} → WaysMarked 0 choices choices
-    ways_none = record { grows = grows_none x y; wanted = λ e below. absurd (omega arith) }
 
     pub ways_more : {before between after : List ℕ} {r : Bool} (d : ℕ) → WaysMarked d before between → MarksWay w x y d between r after
         → WaysMarked (d + 1) before after

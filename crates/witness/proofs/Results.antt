@@ -1,21 +1,19 @@
 -- What is answered, from what was found.
---     room_fits, fits_room       the sizes are asked about
---     writes_series              a series is spelled
---     writes_stuck, writes_unfit     or there is none
+--     room_fits                  the sizes are asked about
+--     writes_unfit               there is no series
 --     writes_more                a bound above the weight is as good
 -- Assumes nothing.
-use mathlib.Core.Path.{◌≡◌, refl, subst}
+use mathlib.Core.Path.{◌≡◌, refl}
 use mathlib.Core.List.{List}
 use Prim.Native.Nat.{ℕ, ◌≤◌}
 use native.Mathlib.Omega.{arith}
 use lib.ListN.{length}
+use Rattle.std.specs.Prelude.{Result, Ok, Err}
+use Rattle.words.specs.declared.Factors.{Factors}
+use Rattle.trees.specs.declared.Unfit.{Unfit}
 use Rattle.derivations.specs.Ways.{World, weight_in, whole}
-use Rattle.witness.specs.Marking.{Keeps}
-use Rattle.witness.specs.Sweeping.{Stuck}
 use Rattle.witness.specs.Room.{Room}
-use Rattle.witness.specs.Witness.{Spells, Fits, Derivable, Writes}
-use Rattle.witness.specs.declared.Written.{Written}
-use Rattle.witness.specs.declared.Written.TheVariants.{Series, Unfit}
+use Rattle.witness.specs.Witness.{Fits, Derivable, Writes}
 
 module _ (w : World) where
   module _ {n : ℕ} {choices witness : List ℕ} where
@@ -27,30 +25,8 @@ module _ (w : World) where
           room = room.factors;
         }
 
-    pub fits_room : Fits w n choices witness → Room (length w.target) w.count (length w.wholes) n (length choices) (length witness)
-    fits_room fits =
-        record {
-          some = fits.small.some;
-          few = fits.small.few;
-          short = fits.small.short;
-          numbers = fits.small.numbers;
-          bound = fits.bound;
-          factors = fits.room;
-          room = fits.small.room;
-        }
-
-  module _ {choices witness choices' : List ℕ} (keeps : Keeps w choices choices') where
-    pub writes_series : {witness' : List ℕ} (x k r : ℕ) → Fits w k choices witness → x ≡ whole w → weight_in w x 0 ≡ k → Spells w x 0 r witness witness'
-        → Writes w k (Series (record { 0 = r })) choices witness choices' witness'
-    writes_series {witness'} x k r fits last weighs spells =
-        let counts = spells.counts in
-        (fits, omega arith, subst (λ (m : ℕ). Spells w m 0 r witness witness') last spells, keeps.behind)
-
-    pub writes_stuck : (k : ℕ) → Stuck w k → Writes w k Unfit choices witness choices' witness
-    writes_stuck k stuck = (λ fits derivable. stuck k (omega arith) derivable.attained, refl, keeps.behind)
-
-  pub writes_unfit : {choices witness : List ℕ} (n : ℕ) → (Fits w n choices witness → Derivable w n → ⊥) → Writes w n Unfit choices witness choices witness
-  writes_unfit n unfit = (unfit, refl, refl)
+  pub writes_unfit : {choices witness : List ℕ} (n : ℕ) (e : Unfit) → (Fits w n choices witness → Derivable w n → ⊥) → Writes w n (Err e) choices witness choices witness
+  writes_unfit n e unfit = (unfit, refl, refl)
 
   module _ {choices witness : List ℕ} (k n : ℕ) (within : k ≤ n) (fits : Fits w n choices witness)
       (weighs : weight_in w (whole w) 0 ≡ k) where
@@ -69,7 +45,7 @@ module _ (w : World) where
           attained = λ x y first some light. derivable.attained x y first some (omega arith);
         }
 
-    pub writes_more : (choices' witness' : List ℕ) (r : Written) → Writes w k r choices witness choices' witness'
+    pub writes_more : (choices' witness' : List ℕ) (r : Result Factors Unfit) → Writes w k r choices witness choices' witness'
         → Writes w n r choices witness choices' witness'
-    writes_more choices' witness' (Series c) (_, few, spells, behind) = (fits, omega arith, spells, behind)
-    writes_more choices' witness' Unfit (unfit, same, behind) = (λ _ derivable. unfit fits_less (derivable_less derivable), same, behind)
+    writes_more choices' witness' (Ok c) (_, few, spells, behind) = (fits, omega arith, spells, behind)
+    writes_more choices' witness' (Err e) (unfit, same, behind) = (λ _ derivable. unfit fits_less (derivable_less derivable), same, behind)

@@ -1,7 +1,5 @@
 -- The item on top of a stack gives way to its parts in the way that is chosen for it.
 --     Top              what is known of the item on top, which is no factor
---     top_place        it has a place in the table of choices
---     top_coded        a way is chosen for it
 --     parts_room       there is room for its parts, and their numbers fit
 --     taken_apart      the stack with the parts in its place
 -- Assumes nothing.
@@ -12,8 +10,6 @@ use Prim.Native.Nat.{ℕ, suc, ◌+◌, ◌-◌, ◌*◌, ◌≤◌, ◌<◌}
 use native.Mathlib.Omega.{arith}
 use lib.ListN.{length}
 use Rattle.limits.specs.Limits.{most_factors}
-use Rattle.trees.specs.Tree.{at}
-use Rattle.tables.specs.Rules.{place}
 use Rattle.derivations.specs.Derivations.{Tight, Joins}
 use Rattle.derivations.specs.Ways.{World, parts_in, weight_in, highest}
 use Rattle.derivations.specs.declared.Parts.{Parts}
@@ -21,10 +17,10 @@ use Rattle.derivations.specs.declared.Parts.TheVariants.{One, Two, Nothing}
 use Rattle.derivations.proofs.Series.{firsts_unique}
 use Rattle.derivations.proofs.Steps.{steps, steps_one, steps_wide}
 use Rattle.witness.specs.Choices.{choice_at, Coded, Small, Done, Settled, AllSettled}
-use Rattle.witness.specs.Stacks.{stacked, items_of, Entries, weight_of, steps_left, Spelled, more, Ready, Standing, TakenApart}
-use Rattle.witness.proofs.Numbers.{item_low, item_place}
+use Rattle.witness.specs.Stacks.{items_of, Entries, weight_of, steps_left, Spelled, more, Ready, Standing, TakenApart}
+use Rattle.witness.proofs.Numbers.{item_low}
 use Rattle.witness.proofs.Parted.{parts_entries, parts_few, parts_weigh, parts_ready, parts_join}
-use Rattle.witness.proofs.Stacked.{stacked_top, height_weight}
+use Rattle.witness.proofs.Stacked.{length_weight}
 
 -- ---- parts that are tight, on a stack in the place of their item
 
@@ -57,86 +53,56 @@ module _ (w : World) (x y : ℕ) where
 
 -- ---- the item on top
 
--- x and y are the item on top, which is no factor
-pub record Top (w : World) (choices xs ys : List ℕ) (height x y : ℕ) : Type 0 where
+-- x and y are the item on top, which is no factor, and the others are below
+pub record Top (w : World) (choices : List ℕ) (x y : ℕ) (below : List (ℕ × ℕ)) : Type 0 where
   pub small : Small w choices
   pub settled : AllSettled w (choice_at w.count choices)
-  pub standing : Standing w (choice_at w.count choices) xs ys height
-  pub some : (0 < height) × (0 < at xs (height - 1))
-  pub at_x : x ≡ at xs (height - 1)
-  pub at_y : y ≡ at ys (height - 1)
+  pub standing : Standing w (choice_at w.count choices) ((x, y) ∷ below)
+  pub some : 0 < x
 
-module _ {w : World} {choices xs ys : List ℕ} {height x y : ℕ} (top : Top w choices xs ys height x y) where
+module _ {w : World} {choices : List ℕ} {x y : ℕ} {below : List (ℕ × ℕ)} (top : Top w choices x y below) where
   abbrev choice : ℕ → ℕ → ℕ
   choice = choice_at w.count choices
 
-  abbrev below : List (ℕ × ℕ)
-  below = stacked xs ys (height - 1)
-
-  on_top : stacked xs ys height ≡ (x, y) ∷ below
-  on_top = rw (top.at_x, top.at_y) (stacked_top xs ys height top.some.0)
-
-  ready : Ready w choice ((x, y) ∷ below)
-  ready = subst (Ready w choice) on_top top.standing.ready
-
-  light : weight_of w ((x, y) ∷ below) ≤ most_factors
-  light = subst (λ (is : List (ℕ × ℕ)). weight_of w is ≤ most_factors) on_top top.standing.light
-
-  no_factor : 1 ≤ x
-  no_factor = omega (arith, top.some.1, top.at_x)
-
-  pub top_place : (1 ≤ x) × (place w.count (x - 1) y < length choices)
-  top_place = (no_factor, item_place top.small x y (no_factor, ready.0))
-
   coded : Coded (choice x y)
-  coded = from ready.1
+  coded = from top.standing.ready.1
     where
       from : Done w choice x y → Coded (choice x y)
-      from (inl e) = absurd (omega (arith, no_factor))
+      from (inl e) = absurd (omega (arith, top.some))
       from (inr c) = c
 
-  pub top_coded : 1 ≤ choice x y
-  top_coded = coded.0
-
   chosen : Settled w choice x y
-  chosen = top.settled x y (no_factor, ready.0) coded
+  chosen = top.settled x y (top.some, top.standing.ready.0) coded
 
   -- where the parts are those of the way that is chosen
   module _ {ps : Parts} {way : ℕ} (is_way : way ≡ choice x y - 1) (parts : ps ≡ parts_in w x y way) where
     same_parts : ps ≡ parts_in w x y chosen.way
     same_parts = let same : way ≡ chosen.way = omega (arith, is_way, chosen.is) in parts ∙ ap (parts_in w x y) same
 
-    pub parts_room : (height - 1 + length (items_of ps) ≤ length xs) × (height - 1 + length (items_of ps) ≤ length ys) × Entries (items_of ps)
+    pub parts_room : (length (items_of ps) + length below ≤ most_factors) × Entries (items_of ps)
     parts_room =
         let tight : Tight (weight_in w) x y ps = subst (Tight (weight_in w) x y) (sym same_parts) chosen.tight in
         let few = parts_few w x y ps tight in
-        let high = height_weight w choice xs ys (height - 1) ready.2 in (
-          omega (arith, few, high, light, top.standing.room_x),
-          omega (arith, few, high, light, top.standing.room_y),
-          parts_entries w x y top.small ps tight,
-        )
+        let high = length_weight w choice below top.standing.ready.2 in
+        (omega (arith, few, high, top.standing.light), parts_entries w x y top.small ps tight)
 
-    pub taken_apart : (xs₁ ys₁ : List ℕ) (height₁ : ℕ) → length xs₁ ≡ length xs → length ys₁ ≡ length ys → stacked xs₁ ys₁ height₁ ≡ items_of ps ++ below
-        → TakenApart w choice xs ys height xs₁ ys₁ height₁
-    taken_apart xs₁ ys₁ height₁ same_x same_y e =
+    pub taken_apart : (is : List (ℕ × ℕ)) → is ≡ items_of ps ++ below → TakenApart w choice ((x, y) ∷ below) is
+    taken_apart is e =
         record {
           standing = record {
-            room_x = omega (arith, top.standing.room_x, same_x);
-            room_y = omega (arith, top.standing.room_y, same_y);
-            ready = subst (Ready w choice) (sym is_now) (parts_ready w x y below choice chosen_parts chosen.tight chosen.done ready.2);
+            ready = subst (Ready w choice) (sym is_now) (parts_ready w x y below choice chosen_parts chosen.tight chosen.done top.standing.ready.2);
             light = omega (arith, weighs, top.standing.light);
           };
           weighs = weighs;
-          spells = λ r spelled. subst (λ (is : List (ℕ × ℕ)). Spelled w is r) (sym is_now)
-              (parts_spell w x y below choice chosen r (subst (λ (is : List (ℕ × ℕ)). Spelled w is r) on_top spelled));
-          falls = rw (is_now, on_top) (parts_fall w x y below chosen_parts no_factor chosen.tight);
+          spells = λ r spelled. subst (λ (js : List (ℕ × ℕ)). Spelled w js r) (sym is_now) (parts_spell w x y below choice chosen r spelled);
+          falls = rw is_now (parts_fall w x y below chosen_parts top.some chosen.tight);
         }
       where
         chosen_parts : Parts
         chosen_parts = parts_in w x y chosen.way
 
-        is_now : stacked xs₁ ys₁ height₁ ≡ items_of chosen_parts ++ below
+        is_now : is ≡ items_of chosen_parts ++ below
         is_now = e ∙ ap (λ (qs : Parts). items_of qs ++ below) same_parts
 
-        weighs : weight_of w (stacked xs₁ ys₁ height₁) ≡ weight_of w (stacked xs ys height)
-        weighs = ap (weight_of w) is_now ∙ parts_weigh w x y below chosen_parts chosen.tight ∙ ap (weight_of w) (sym on_top)
+        weighs : weight_of w is ≡ weight_of w ((x, y) ∷ below)
+        weighs = ap (weight_of w) is_now ∙ parts_weigh w x y below chosen_parts chosen.tight

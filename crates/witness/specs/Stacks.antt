@@ -1,5 +1,5 @@
 -- Stacks of items that are still to be spelled. Assumes nothing: these are definitions.
-use Rattle.std.specs.Prelude.{◌≡◌, List, [], ◌∷◌, ◌++◌, ℕ, zero, suc, ◌+◌, ◌*◌, ◌≤◌, ◌<◌, length}
+use Rattle.std.specs.Prelude.{◌≡◌, List, [], ◌∷◌, ◌++◌, ℕ, zero, suc, ◌+◌, ◌*◌, ◌≤◌, ◌<◌}
 use Rattle.limits.specs.Limits.{most_factors}
 use Rattle.trees.specs.Tree.{at, most_of_entry}
 use Rattle.derivations.specs.Derivations.{Firsts}
@@ -45,16 +45,14 @@ module _ (w : World) (choice : ℕ → ℕ → ℕ) where
   Ready [] = Unit {0}
   Ready (i ∷ is) = (1 ≤ weight_in w i.0 i.1) × Done w choice i.0 i.1 × Ready is
 
-  -- A stack of such items, with no more factors to spell than there can be, in arrays that are long enough for as many items.
-  pub record Standing (xs ys : List ℕ) (height : ℕ) : Type 0 where
-    pub room_x : most_factors ≤ length xs
-    pub room_y : most_factors ≤ length ys
-    pub ready : Ready (stacked xs ys height)
-    pub light : weight_of w (stacked xs ys height) ≤ most_factors
+  -- A stack of such items, with no more factors to spell than there can be.
+  pub record Standing (is : List (ℕ × ℕ)) : Type 0 where
+    pub ready : Ready is
+    pub light : weight_of w is ≤ most_factors
 
   -- The item on top gave way to its parts: the stack spells what it spelled, weighs what it weighed, and costs less.
-  pub record TakenApart (xs ys : List ℕ) (height : ℕ) (xs₁ ys₁ : List ℕ) (height₁ : ℕ) : Type 0 where
-    pub standing : Standing xs₁ ys₁ height₁
-    pub weighs : weight_of w (stacked xs₁ ys₁ height₁) ≡ weight_of w (stacked xs ys height)
-    pub spells : (r : List ℕ) → Spelled w (stacked xs ys height) r → Spelled w (stacked xs₁ ys₁ height₁) r
-    pub falls : steps_left w (stacked xs₁ ys₁ height₁) < steps_left w (stacked xs ys height)
+  pub record TakenApart (is is₁ : List (ℕ × ℕ)) : Type 0 where
+    pub standing : Standing is₁
+    pub weighs : weight_of w is₁ ≡ weight_of w is
+    pub spells : (r : List ℕ) → Spelled w is r → Spelled w is₁ r
+    pub falls : steps_left w is₁ < steps_left w is

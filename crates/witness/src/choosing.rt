@@ -1,252 +1,136 @@
 // The choice of an item: of its candidates one whose series is no later than any other's.
-ghost use Rattle.std.specs.Prelude.{suc, ◌≤◌, length};
+ghost use Rattle.std.specs.Prelude.{Some, suc, ◌≤◌};
 ghost use Rattle.limits.specs.Limits.{most_factors};
 ghost use Rattle.trees.specs.Tree.{most_of_entry};
 ghost use Rattle.derivations.specs.Derivations.{Candidate};
-ghost use Rattle.derivations.specs.Ways.{world, parts_in, weight_in};
+ghost use Rattle.derivations.specs.Ways.{world_of, parts_in, weight_in};
 ghost use Rattle.witness.specs.Choices.{choice_at, Item, Small, AllSettled, CandidatesDone, Chooses};
 ghost use Rattle.witness.specs.Choosing.{Choosable, TellsBefore, BestBelow, Undecided, Tried, BestOfAll};
 
 use crate::choices::set_choice;
 use crate::comparing::before;
-use crate::stacks::push_parts;
-
-// The best way so far, plus 1, and 0 where there is none; and whether the item is decided.
-#[derive(Drop)]
-struct Best {
-    way: usize,
-    over: bool,
-}
+use crate::stacks::Stack;
+use derivations::Setting;
+use items::Counts;
+use std::ops::ControlFlow;
 
 // Is the series of the way d before that of the way e?
 fn is_before(
-    target: &[u8],
-    count: usize,
-    letters: &[u8],
-    rests: &[u16],
-    children_r: &[u16],
-    children_s: &[u16],
-    wholes: &[u16],
-    counts: &[u16],
+    setting: &Setting,
     choices: &[u16],
-    xs: &mut [u16],
-    ys: &mut [u16],
-    us: &mut [u16],
-    vs: &mut [u16],
+    first: &mut Stack,
+    second: &mut Stack,
     x: usize,
     y: usize,
     d: usize,
     e: usize,
 ) -> bool
-    requires choosable { Choosable (world count letters.now rests.now children_r.now children_s.now wholes.now target.now counts.now)
-        choices.now xs.old ys.old us.old vs.old x y }
-    requires candidate { Candidate (parts_in (world count letters.now rests.now children_r.now children_s.now wholes.now target.now counts.now))
-        (weight_in (world count letters.now rests.now children_r.now children_s.now wholes.now target.now counts.now)) x y d }
-    requires candidate_2 { Candidate (parts_in (world count letters.now rests.now children_r.now children_s.now wholes.now target.now counts.now))
-        (weight_in (world count letters.now rests.now children_r.now children_s.now wholes.now target.now counts.now)) x y e }
-    ensures { TellsBefore (world count letters.now rests.now children_r.now children_s.now wholes.now
-        target.now counts.now) x y d e result }
+    requires choosable { Choosable (world_of setting.now) choices.now x y }
+    requires candidate { Candidate (parts_in (world_of setting.now)) (weight_in (world_of setting.now)) x y d }
+    requires candidate_2 { Candidate (parts_in (world_of setting.now)) (weight_in (world_of setting.now)) x y e }
+    ensures { TellsBefore (world_of setting.now) x y d e result }
 {
-    let height = push_parts(
-        xs,
-        ys,
-        0,
-        items::parts(
-            target, count, letters, rests, children_r, children_s, wholes, counts, x, y, d,
-        ),
-    );
-    let other = push_parts(
-        us,
-        vs,
-        0,
-        items::parts(
-            target, count, letters, rests, children_r, children_s, wholes, counts, x, y, e,
-        ),
-    );
-    before(
-        target, count, letters, rests, children_r, children_s, wholes, counts, choices, xs, ys, us,
-        vs, height, other,
-    )
+    first.clear();
+    first.push_parts(items::parts(setting, x, y, d));
+    second.clear();
+    second.push_parts(items::parts(setting, x, y, e));
+    before(setting, choices, first, second)
 }
 
 // The better of the best way so far and the way d, which is tight.
 fn better(
-    target: &[u8],
-    count: usize,
-    letters: &[u8],
-    rests: &[u16],
-    children_r: &[u16],
-    children_s: &[u16],
-    wholes: &[u16],
-    counts: &[u16],
+    setting: &Setting,
     choices: &[u16],
-    xs: &mut [u16],
-    ys: &mut [u16],
-    us: &mut [u16],
-    vs: &mut [u16],
+    first: &mut Stack,
+    second: &mut Stack,
     x: usize,
     y: usize,
-    best: usize,
+    best: Option<usize>,
     d: usize,
 ) -> usize
-    requires choosable { Choosable (world count letters.now rests.now children_r.now children_s.now wholes.now target.now counts.now)
-        choices.now xs.old ys.old us.old vs.old x y }
-    requires best_below { BestBelow (world count letters.now rests.now children_r.now children_s.now wholes.now target.now counts.now) x y best d }
-    requires candidate { Candidate (parts_in (world count letters.now rests.now children_r.now children_s.now wholes.now target.now counts.now))
-        (weight_in (world count letters.now rests.now children_r.now children_s.now wholes.now target.now counts.now)) x y d }
-    requires d_le_most_of_entry { d ≤ most_of_entry }
-    ensures { BestBelow (world count letters.now rests.now children_r.now children_s.now wholes.now
-        target.now counts.now) x y result (suc d) }
+    requires choosable { Choosable (world_of setting.now) choices.now x y }
+    requires best_below { BestBelow (world_of setting.now) x y best d }
+    requires candidate { Candidate (parts_in (world_of setting.now)) (weight_in (world_of setting.now)) x y d }
+    ensures { BestBelow (world_of setting.now) x y (Some result) (suc d) }
 {
-    if best == 0 {
-        return d + 1;
+    let Some(so_far) = best else {
+        return d;
+    };
+    if is_before(setting, choices, first, second, x, y, d, so_far) {
+        return d;
     }
-    if is_before(
-        target,
-        count,
-        letters,
-        rests,
-        children_r,
-        children_s,
-        wholes,
-        counts,
-        choices,
-        xs,
-        ys,
-        us,
-        vs,
-        x,
-        y,
-        d,
-        best - 1,
-    ) {
-        return d + 1;
-    }
-    best
+    so_far
 }
 
-// One way more.
+// One way more: the best one so far, or the one that is best since the item is decided.
 fn try_way(
-    target: &[u8],
-    count: usize,
-    letters: &[u8],
-    rests: &[u16],
-    children_r: &[u16],
-    children_s: &[u16],
-    wholes: &[u16],
-    counts: &[u16],
+    setting: &Setting,
     choices: &[u16],
-    xs: &mut [u16],
-    ys: &mut [u16],
-    us: &mut [u16],
-    vs: &mut [u16],
+    first: &mut Stack,
+    second: &mut Stack,
     x: usize,
     y: usize,
-    best: usize,
+    best: Option<usize>,
     d: usize,
-) -> Best
-    requires choosable { Choosable (world count letters.now rests.now children_r.now children_s.now wholes.now target.now counts.now)
-        choices.now xs.old ys.old us.old vs.old x y }
-    requires best_below { BestBelow (world count letters.now rests.now children_r.now children_s.now wholes.now target.now counts.now) x y best d }
-    requires undecided { Undecided (world count letters.now rests.now children_r.now children_s.now wholes.now target.now counts.now) x y d }
-    requires d_le_most_of_entry { d ≤ most_of_entry }
-    ensures { Tried (world count letters.now rests.now children_r.now children_s.now wholes.now
-        target.now counts.now) x y d result.way result.over }
+) -> ControlFlow<usize, Option<usize>>
+    requires choosable { Choosable (world_of setting.now) choices.now x y }
+    requires best_below { BestBelow (world_of setting.now) x y best d }
+    requires undecided { Undecided (world_of setting.now) x y d }
+    ensures { Tried (world_of setting.now) x y d result }
 {
-    let p = items::parts(
-        target, count, letters, rests, children_r, children_s, wholes, counts, x, y, d,
-    );
-    if items::is_tight(count, wholes.len(), target.len(), counts, x, y, p) {
-        return Best {
-            way: better(
-                target, count, letters, rests, children_r, children_s, wholes, counts, choices, xs,
-                ys, us, vs, x, y, best, d,
-            ),
-            over: items::alone(x, p),
-        };
+    let p = items::parts(setting, x, y, d);
+    if items::is_tight(&Counts::of(setting), x, y, p) {
+        let way = better(setting, choices, first, second, x, y, best, d);
+        if items::alone(x, p) {
+            return ControlFlow::Break(way);
+        }
+        return ControlFlow::Continue(Some(way));
     }
-    Best {
-        way: best,
-        over: false,
-    }
+    ControlFlow::Continue(best)
 }
 
-// The best way of all, plus 1, and 0 where no way is tight.
+// The best way of all, if any is tight.
 fn best_way(
-    target: &[u8],
-    count: usize,
-    letters: &[u8],
-    rests: &[u16],
-    children_r: &[u16],
-    children_s: &[u16],
-    wholes: &[u16],
-    counts: &[u16],
+    setting: &Setting,
     choices: &[u16],
-    xs: &mut [u16],
-    ys: &mut [u16],
-    us: &mut [u16],
-    vs: &mut [u16],
+    first: &mut Stack,
+    second: &mut Stack,
     x: usize,
     y: usize,
-) -> usize
-    requires { Choosable (world count letters.now rests.now children_r.now children_s.now wholes.now target.now counts.now)
-        choices.now xs.old ys.old us.old vs.old x y }
-    ensures { BestOfAll (world count letters.now rests.now children_r.now children_s.now wholes.now
-        target.now counts.now) x y result }
+) -> Option<usize>
+    requires { Choosable (world_of setting.now) choices.now x y }
+    ensures { BestOfAll (world_of setting.now) x y result }
 {
-    let many = items::ways(count, wholes.len(), x);
-    let mut best = 0;
-    let mut d = 0;
-    while d < many {
-        let next = try_way(
-            target, count, letters, rests, children_r, children_s, wholes, counts, choices, xs, ys,
-            us, vs, x, y, best, d,
-        );
-        best = next.way;
-        if next.over {
-            return best;
+    let many = items::ways(setting.tree.count, setting.tree.wholes.len(), x);
+    let mut best = None;
+    for d in 0..many {
+        match try_way(setting, choices, first, second, x, y, best, d) {
+            ControlFlow::Continue(way) => best = way,
+            ControlFlow::Break(way) => return Some(way),
         }
-        d += 1;
     }
     best
 }
 
 // Chooses a way for the item, whose candidates' parts are done; the answer is whether there is one.
 pub(crate) fn choose(
-    target: &[u8],
-    count: usize,
-    letters: &[u8],
-    rests: &[u16],
-    children_r: &[u16],
-    children_s: &[u16],
-    wholes: &[u16],
-    counts: &[u16],
+    setting: &Setting,
     choices: &mut [u16],
-    xs: &mut [u16],
-    ys: &mut [u16],
-    us: &mut [u16],
-    vs: &mut [u16],
+    first: &mut Stack,
+    second: &mut Stack,
     x: usize,
     y: usize,
 ) -> bool
-    requires small { Small (world count letters.now rests.now children_r.now children_s.now wholes.now target.now counts.now) choices.old }
-    requires most_factors_in_bounds { (most_factors ≤ length xs.old) × (most_factors ≤ length ys.old) × (most_factors ≤ length us.old) × (most_factors ≤ length vs.old) }
-    requires item { Item (world count letters.now rests.now children_r.now children_s.now wholes.now target.now counts.now) x y }
-    requires y_bound { weight_in (world count letters.now rests.now children_r.now children_s.now wholes.now target.now counts.now) x y ≤ most_factors }
-    requires all_settled { AllSettled (world count letters.now rests.now children_r.now children_s.now wholes.now target.now counts.now)
-        (choice_at count choices.old) }
-    requires candidates_done { CandidatesDone (world count letters.now rests.now children_r.now children_s.now wholes.now target.now counts.now)
-        (choice_at count choices.old) x y }
-    ensures { Chooses (world count letters.now rests.now children_r.now children_s.now wholes.now
-        target.now counts.now) x y choices.old result choices.new }
+    requires small { Small (world_of setting.now) choices.old }
+    requires item { Item (world_of setting.now) x y }
+    requires y_bound { weight_in (world_of setting.now) x y ≤ most_factors }
+    requires all_settled { AllSettled (world_of setting.now) (choice_at setting.now.tree.count choices.old) }
+    requires candidates_done { CandidatesDone (world_of setting.now) (choice_at setting.now.tree.count choices.old) x y }
+    ensures { Chooses (world_of setting.now) x y choices.old result choices.new }
 {
-    let best = best_way(
-        target, count, letters, rests, children_r, children_s, wholes, counts, choices, xs, ys, us,
-        vs, x, y,
-    );
-    if best == 0 {
+    let Some(way) = best_way(setting, choices, first, second, x, y) else {
         return false;
-    }
-    set_choice(count, choices, x, y, best as u16);
+    };
+    set_choice(setting.tree.count, choices, x, y, way as u16 + 1);
     true
 }

@@ -8,13 +8,6 @@ ghost use Rattle.witness.specs.Due.{Due, SomeDue, StandsAt};
 // How many places are looked at together. Of many blocks each is passed over without a look at its items.
 const BLOCK: usize = 256;
 
-// The first and the second number of an item.
-#[derive(Drop)]
-pub(crate) struct Numbers {
-    pub(crate) first: usize,
-    pub(crate) second: usize,
-}
-
 // The state of a choice and the weight are those that are due. No early end.
 pub(crate) fn is_due(choice: u16, weight: u16, state: u16, k: u16) -> bool
     ensures { Tells result (Due state k choice weight) }
@@ -28,10 +21,9 @@ fn has_due(choices: &[u16], counts: &[u16], state: u16, k: u16) -> bool
     ensures { Tells result (SomeDue state k choices.now counts.now 0 (length choices.now)) }
 {
     let mut due = false;
-    let mut p = 0;
-    while p < choices.len() {
-        due = due | is_due(choices[p], counts[p], state, k);
-        p += 1;
+    // By index: the counts may be more.
+    for p in 0..choices.len() {
+        due |= is_due(choices[p], counts[p], state, k);
     }
     due
 }
@@ -55,10 +47,7 @@ pub(crate) fn block_due(
 pub(crate) fn block_before(end: usize) -> usize
     ensures { (result ≤ end) × (1 ≤ end → result < end) }
 {
-    if BLOCK < end {
-        return end - BLOCK;
-    }
-    0
+    end.saturating_sub(BLOCK)
 }
 
 // Where the block from the place `from` on ends.
@@ -66,18 +55,15 @@ pub(crate) fn block_after(from: usize, end: usize) -> usize
     requires { from < end }
     ensures { (from < result) × (result ≤ end) }
 {
-    if BLOCK < end - from {
-        return from + BLOCK;
-    }
-    end
+    from + BLOCK.min(end - from)
 }
 
-// The item at the place p, found row by row from an item with the first number `near`.
-pub(crate) fn item_at(count: usize, near: usize, p: usize) -> Numbers
+// The first and the second number of the item at the place p, found row by row from an item with the first number `near`.
+pub(crate) fn item_at(count: usize, near: usize, p: usize) -> (usize, usize)
     requires le_count { (1 ≤ count) × (count ≤ most_of_entry) }
     requires le_near { (1 ≤ near) × (near ≤ most_of_entry) }
     requires p_bound { p ≤ most_of_entry * most_of_entry }
-    ensures { StandsAt count p result.first result.second }
+    ensures { StandsAt count p result.0 result.1 }
 {
     let mut x = near;
     let mut start = (near - 1) * count;
@@ -89,8 +75,5 @@ pub(crate) fn item_at(count: usize, near: usize, p: usize) -> Numbers
         start -= count;
         x -= 1;
     }
-    Numbers {
-        first: x,
-        second: p - start,
-    }
+    (x, p - start)
 }

@@ -9,10 +9,11 @@ use mathlib.Core.Path.{◌≡◌, refl, sym, ap, subst, ◌∙◌}
 use mathlib.Core.List.{[], ◌∷◌, ◌++◌, reverse, append-nil, reverse-cons}
 use Prim.Native.Nat.{ℕ, suc, ◌+◌}
 use native.Mathlib.Omega.{arith}
-use lib.ListN.{length, length-append}
+use lib.ListN.{length-append}
 use Rattle.words.specs.Word.{Letter, R, S, Word, arrive, arrived, nf}
 use Rattle.words.specs.Account.{rs, Accounts, Erases, nothing, pair, triple}
 use Rattle.words.specs.Arrival.{ending_of}
+use Rattle.words.specs.declared.Ending.TheVariants.{R as One-R}
 use Rattle.words.proofs.NormalForm.{reversed_cons}
 
 -- ---- the R's of a word
@@ -28,18 +29,12 @@ rs_reverse (R ∷ w) = omega (arith, ap rs (reverse-cons R w), rs_append (revers
 rs_reverse (S ∷ w) = omega (arith, ap rs (reverse-cons S w), rs_append (reverse w) (S ∷ []), rs_reverse w)
 
 -- an R that meets an R goes with it
-pub rs_cancel : (w : Word) → 1 ≡ ending_of w → rs w ≡ rs (arrive R w) + 1
-rs_cancel [] e = absurd (omega arith)
+pub rs_cancel : (w : Word) → One-R ≡ ending_of w → rs w ≡ rs (arrive R w) + 1
+rs_cancel [] e = absurd (cc)
 rs_cancel (R ∷ w) e = omega arith
-rs_cancel (S ∷ []) e = absurd (omega arith)
-rs_cancel (S ∷ R ∷ w) e = absurd (omega arith)
-rs_cancel (S ∷ S ∷ w) e = absurd (omega arith)
-
--- another one stays
-pub rs_stay : (w : Word) → (1 ≡ ending_of w → ⊥) → rs (arrive R w) ≡ rs w + 1
-rs_stay [] other = omega arith
-rs_stay (R ∷ w) other = absurd (other refl)
-rs_stay (S ∷ w) other = omega arith
+rs_cancel (S ∷ []) e = absurd (cc)
+rs_cancel (S ∷ R ∷ w) e = absurd (cc)
+rs_cancel (S ∷ S ∷ w) e = absurd (cc)
 
 -- an S takes no R along
 pub rs_of_s : (w : Word) → rs (arrive S w) ≡ rs w

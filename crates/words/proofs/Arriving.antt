@@ -2,30 +2,18 @@
 -- come, and in what order: that is the parameter `rest`. Assumes nothing.
 use mathlib.Core.Path.{◌≡◌, refl, sym, ap, subst, ◌∙◌}
 use mathlib.Core.List.{List, [], ◌∷◌, ◌++◌, map-append}
-use Prim.Native.Nat.{ℕ, suc, ◌+◌, ◌-◌, ◌*◌, ◌≤◌, ◌<◌, zero-le}
-use native.Mathlib.Numerals.{add-one}
+use Prim.Native.Nat.{ℕ, ◌+◌, ◌*◌, zero-le}
 use native.Mathlib.Omega.{arith}
-use lib.ListN.{length, take, drop, get_or, length-append}
-use lib.Seq.{drop-cons, take-suc}
+use lib.ListN.{length, length-append}
 use Rattle.words.specs.Word.{Word, arrived, inverse, inverse_letter}
 use Rattle.words.specs.Bytes.{letter, word}
 use Rattle.words.specs.Account.{rs}
 use Rattle.words.specs.Arrival.{Held, SomeHeld, Arrives, came}
+use Rattle.words.specs.declared.Ending.TheVariants.{Nothing}
 use Rattle.words.specs.declared.arrival.Top.{Top}
 use Rattle.words.proofs.NormalForm.{arrived_append}
 use Rattle.words.proofs.Accounting.{rs_append}
 use Rattle.words.proofs.Inverse.{inverse_append}
-
-pub arrives_some : {x : Word} {s : List ℕ} {top : Top} {s' : List ℕ} {top' : Top} → SomeHeld s top.len top.ending → Arrives x s top s' top' → SomeHeld s' top'.len top'.ending
-arrives_some {x} (w, h) m = (arrived w x, m.held w h)
-
-pub arrives_then : {x y : Word} {s : List ℕ} {top : Top} {s' : List ℕ} {top' : Top} {s'' : List ℕ} {top'' : Top} → Arrives x s top s' top' → Arrives y s' top' s'' top'' → Arrives (x ++ y) s top s'' top''
-arrives_then {x} {y} {s'' = s''} {top''} m n =
-    record {
-      held = λ w h. subst (Held s'' top''.len top''.ending) (sym (arrived_append w x y)) (n.held (arrived w x) (m.held w h));
-      letters = omega (arith, m.letters, n.letters, length-append x y);
-      rs_gone = λ w h. omega (arith, m.rs_gone w h, n.rs_gone (arrived w x) (m.held w h), rs_append x y, ap rs (arrived_append w x y));
-    }
 
 -- The letters of `total` arrive at the stack, which was empty; `rest` is what is still to come. Each letter, and each R, that is not still to come is on the
 -- stack or is counted as gone.
@@ -39,7 +27,7 @@ pub record Arriving (s : List ℕ) (top : Top) (rest total : Word) : Type 0 wher
 pub arriving_some : (s : List ℕ) (top : Top) {rest total : Word} → Arriving s top rest total → SomeHeld s top.len top.ending
 arriving_some s top a = (a.so_far, a.held)
 
-pub arriving_begins : (s : List ℕ) (total : Word) → Arriving s (record { len = 0; ending = 0; pairs = 0; triples = 0 }) total total
+pub arriving_begins : (s : List ℕ) (total : Word) → Arriving s (record { len = 0; ending = Nothing; pairs = 0; triples = 0 }) total total
 arriving_begins s total =
     record {
       so_far = [];
@@ -67,18 +55,7 @@ module _ {s : List ℕ} {top : Top} {rest total : Word} (e : rest ≡ []) (a : A
   pub arriving_ends : Held s top.len top.ending (arrived [] total)
   arriving_ends = subst (Held s top.len top.ending) all_arrived a.held
 
-  pub all_came : came top ≡ length total
-  all_came = omega (arith, a.letters, ap length e)
-
-  pub all_rs_gone : rs (arrived [] total) + 2 * top.pairs ≡ rs total
-  all_rs_gone = omega (arith, a.rs_gone, ap rs e, ap rs all_arrived)
-
--- what is still to come of a word, of which i letters have arrived
-pub rest_of_word : (w : List ℕ) (i : ℕ) → i < length w → word (drop i w) ≡ (letter (get_or w i 0) ∷ []) ++ word (drop (i + 1) w)
-rest_of_word w i h = rw (add-one i) (ap word (drop-cons w i 0 h))
-
--- what is still to come of a word's inverse, of which the letters from i on have arrived
-pub rest_of_inverse : (w : List ℕ) (i : ℕ) → 0 < i → i ≤ length w → inverse (word (take i w)) ≡ inverse_letter (letter (get_or w (i - 1) 0)) ++ inverse (word (take (i - 1) w))
-rest_of_inverse w i h k =
-    let next : i ≡ suc (i - 1) = omega arith in
-    ap (λ (j : ℕ). inverse (word (take j w))) next ∙ ap (λ (l : List ℕ). inverse (word l)) (take-suc w (i - 1) 0 (omega arith)) ∙ ap inverse (map-append letter (take (i - 1) w) (get_or w (i - 1) 0 ∷ [])) ∙ inverse_append (word (take (i - 1) w)) (letter (get_or w (i - 1) 0) ∷ [])
+-- what is still to come of a word's inverse, where b is the last letter that has not arrived
+pub rest_of_inverse : (all before : List ℕ) (b : ℕ) → all ≡ before ++ b ∷ [] → inverse (word all) ≡ inverse_letter (letter b) ++ inverse (word before)
+rest_of_inverse all before b e =
+    ap (λ (l : List ℕ). inverse (word l)) e ∙ ap inverse (map-append letter before (b ∷ [])) ∙ inverse_append (word before) (letter b ∷ [])

@@ -5,10 +5,11 @@ use mathlib.Core.Bool.{Bool}
 use mathlib.Core.Path.{◌≡◌, sym, ap, subst, ◌∙◌}
 use mathlib.Core.Logic.{◌↔◌, inl, inr}
 use mathlib.Core.List.{List, [], ◌∷◌}
-use Prim.Native.Nat.{ℕ, suc, ◌+◌, ◌<◌}
+use Prim.Native.Nat.{ℕ, suc, ◌+◌, ◌-◌, ◌<◌}
 use native.Mathlib.Numerals.{add-one}
-use lib.ListN.{length, drop, get_or}
-use lib.Seq.{drop-cons, drop-length}
+use native.Mathlib.Omega.{arith}
+use lib.ListN.{length, take, drop, get_or, length-drop}
+use lib.Seq.{drop-cons, drop-length, take_all}
 use Rattle.words.specs.Word.{Letter, R, S, Word, Normal}
 use Rattle.words.specs.Bytes.{letter, word}
 use Rattle.refusals.specs.Telling.{Tells}
@@ -78,6 +79,10 @@ rest_s w at h e = rest_from w at S h (letter_s _ e)
 pub rest_none : (w : List ℕ) (at : ℕ) → at ≡ length w → word (drop at w) ≡ []
 rest_none w at e = ap (λ (n : ℕ). word (drop n w)) e ∙ ap word (drop-length w)
 
+-- the same without the first letters of the word, as the language has it
+pub without : (w : List ℕ) (k : ℕ) → take (length w - k) (drop k w) ≡ drop k w
+without w k = take_all (length w - k) (drop k w) (omega (arith, length-drop k w))
+
 -- ---- what the first letters leave to test
 
 behind_r : {w : Word} → FromRPart (R ∷ w) → FromSPart w
@@ -116,12 +121,6 @@ nothing_from_s e = subst FromSPart (sym e) no_s_part
 
 pub s_alone : {x y : Word} → x ≡ S ∷ y → y ≡ [] → FromSPart x
 s_alone e f = subst FromSPart (sym (e ∙ ap (λ (w : Word). S ∷ w) f)) (s_part no_r_part)
-
-pub not_from_r : {x y : Word} → x ≡ S ∷ y → FromRPart x → ⊥
-not_from_r e p = no_r_part_from_s (subst FromRPart e p)
-
-pub not_from_s : {x y : Word} → x ≡ R ∷ y → FromSPart x → ⊥
-not_from_s e p = no_s_part_from_r (subst FromSPart e p)
 
 module _ (b : Bool) {x : Word} where
   pub r_then : (w : Word) → x ≡ R ∷ w → Tells b (FromSPart w) → Tells b (FromRPart x)

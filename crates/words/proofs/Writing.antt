@@ -6,25 +6,21 @@ use native.Mathlib.Omega.{arith}
 use lib.ListN.{length, take, length-reverse}
 use Rattle.words.specs.Word.{Word, arrived, nf}
 use Rattle.words.specs.Bytes.{word, bytes}
-use Rattle.refusals.specs.Questions.{of_word}
+use Rattle.std.specs.Prelude.{Ok, Err}
+use Rattle.refusals.specs.Questions.{Asked, passed, of_word}
 use Rattle.slices.specs.Slices.{overwritten}
 use Rattle.words.specs.Calls.{written, length_or, Writes, Reduces}
 use Rattle.words.specs.Account.{rs, Accounts}
 use Rattle.words.specs.Arrival.{Held}
 use Rattle.words.specs.declared.Letters.{Letters}
 use Rattle.refusals.specs.declared.Refusal.{Refusal}
-use Rattle.refusals.specs.declared.Asked.{Asked}
-use Rattle.refusals.specs.declared.Asked.TheVariants.{Passed, Refused}
-use Rattle.words.specs.declared.Written.{Written}
-use Rattle.words.specs.declared.Written.TheVariants.{Length, Refused as Written-as-Refused}
+use Rattle.words.specs.declared.Ending.{Ending}
 use Rattle.words.specs.declared.Account.{Account}
-use Rattle.words.specs.declared.Reduction.{Reduction}
-use Rattle.words.specs.declared.Reduction.TheVariants.{Done, Refused as Reduction-as-Refused}
 use Rattle.words.proofs.Accounting.{rs_reverse}
 use Rattle.words.proofs.Stack.{held_length}
 
 -- a stack at which all of x has arrived spells the normal form of x
-module _ (s : List ℕ) (len ending : ℕ) (x : Word) (h : Held s len ending (arrived [] x)) where
+module _ (s : List ℕ) (len : ℕ) (ending : Ending) (x : Word) (h : Held s len ending (arrived [] x)) where
   held_spells : take len s ≡ bytes (nf x)
   unfolding nf
   held_spells = h.spelled
@@ -47,7 +43,7 @@ module _ (f : Word → Word) (k : ℕ) (w before : List ℕ) (needed : ℕ) (ask
   same_questions : asked ≡ of_word w (k * length w) (length before)
   same_questions = questions ∙ ap (λ (n : ℕ). of_word w n (length before)) room
 
-  pub writes_nothing : {refusal : Refusal} → asked ≡ Refused refusal → Writes f k w before (Written-as-Refused refusal) before
+  pub writes_nothing : {refusal : Refusal} → asked ≡ Err refusal → Writes f k w before (Err refusal) before
   writes_nothing e =
       let q = sym e ∙ same_questions in
       record {
@@ -55,24 +51,24 @@ module _ (f : Word → Word) (k : ℕ) (w before : List ℕ) (needed : ℕ) (ask
         slice = ap (λ (a : Asked). written a (bytes (f (word w))) before) q;
       }
 
-  pub writes_word : asked ≡ Passed → (len : Letters) (after : List ℕ) → (len.0 ≡ length (f (word w))) × (after ≡ overwritten (bytes (f (word w))) before) → Writes f k w before (Length len) after
+  pub writes_word : asked ≡ passed → (len : Letters) (after : List ℕ) → (len.0 ≡ length (f (word w))) × (after ≡ overwritten (bytes (f (word w))) before) → Writes f k w before (Ok len) after
   writes_word e len after out =
       let q = sym e ∙ same_questions in
       record {
-        answer = ap (λ (n : ℕ). Length (record { 0 = n })) out.0 ∙ ap (λ (a : Asked). length_or a (length (f (word w)))) q;
+        answer = ap (λ (n : ℕ). Ok (record { 0 = n })) out.0 ∙ ap (λ (a : Asked). length_or a (length (f (word w)))) q;
         slice = out.1 ∙ ap (λ (a : Asked). written a (bytes (f (word w))) before) q;
       }
 
 -- the same of reduction, which tells how many pairs and triples went as well
 module _ (w before : List ℕ) (needed : ℕ) (asked : Asked) (room : needed ≡ 1 * length w) (questions : asked ≡ of_word w needed (length before)) where
-  pub reduces_nothing : {refusal : Refusal} → asked ≡ Refused refusal → Reduces w before (Reduction-as-Refused refusal) before
+  pub reduces_nothing : {refusal : Refusal} → asked ≡ Err refusal → Reduces w before (Err refusal) before
   reduces_nothing e =
       record {
         writes = writes_nothing nf 1 w before needed asked room questions e;
         accounts = λ account done. let z : ◌≡◌ {A = ℕ} 0 1 = cc in absurd (omega arith);
       }
 
-  pub reduces_word : asked ≡ Passed → (r : Account) (after : List ℕ) → (r.kept.0 ≡ length (nf (word w))) × (Accounts (word w) (nf (word w)) r.pairs r.triples × (after ≡ overwritten (bytes (nf (word w))) before)) → Reduces w before (Done r) after
+  pub reduces_word : asked ≡ passed → (r : Account) (after : List ℕ) → (r.kept.0 ≡ length (nf (word w))) × (Accounts (word w) (nf (word w)) r.pairs r.triples × (after ≡ overwritten (bytes (nf (word w))) before)) → Reduces w before (Ok r) after
   reduces_word e r after out =
       record {
         writes = writes_word nf 1 w before needed asked room questions e r.kept after (out.0, out.1.1);

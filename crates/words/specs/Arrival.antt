@@ -3,27 +3,29 @@ use Rattle.std.specs.Prelude.{◌≡◌, List, [], ◌∷◌, reverse, ℕ, ◌+
 use Rattle.words.specs.Word.{R, S, Word, arrived}
 use Rattle.words.specs.Bytes.{word, bytes}
 use Rattle.words.specs.Account.{rs}
+use Rattle.words.specs.declared.Ending.{Ending}
+use Rattle.words.specs.declared.Ending.TheVariants.{Nothing, R as One-R, S as One-S, SS as Two-S}
 use Rattle.words.specs.declared.arrival.Top.{Top}
 
--- the number of the ending of a word that stands back to front: 0 nothing, 1 R, 2 S, 3 SS
-abbrev pub ending_of : Word → ℕ
-ending_of [] = 0
-ending_of (R ∷ w) = 1
-ending_of (S ∷ []) = 2
-ending_of (S ∷ R ∷ w) = 2
-ending_of (S ∷ S ∷ w) = 3
+-- the ending of a word that stands back to front
+abbrev pub ending_of : Word → Ending
+ending_of [] = Nothing
+ending_of (R ∷ w) = One-R
+ending_of (S ∷ []) = One-S
+ending_of (S ∷ R ∷ w) = One-S
+ending_of (S ∷ S ∷ w) = Two-S
 
 -- the word that the first `len` bytes of the stack spell, back to front
 abbrev pub below : List ℕ → ℕ → Word
 below stack len = reverse (word (take len stack))
 
 -- The first `len` bytes of the stack spell a word, `w` back to front, which has that ending.
-pub record Held (stack : List ℕ) (len ending : ℕ) (w : Word) : Type 0 where
+pub record Held (stack : List ℕ) (len : ℕ) (ending : Ending) (w : Word) : Type 0 where
   pub within : len ≤ length stack
   pub spelled : take len stack ≡ bytes (reverse w)
   pub ends : ending ≡ ending_of w
 
-abbrev pub SomeHeld : List ℕ → ℕ → ℕ → Type 0
+abbrev pub SomeHeld : List ℕ → ℕ → Ending → Type 0
 SomeHeld stack len ending = (w : Word) × Held stack len ending w
 
 -- how many letters have come in all: those on the stack, and those that went

@@ -5,7 +5,6 @@
 mod arrival;
 mod normality;
 
-// Callers of words name a refusal by this crate too.
 ghost use Rattle.std.specs.Prelude.{◌≡◌, ◌*◌, ◌≤◌, length, take};
 ghost use Rattle.limits.specs.Limits.{most_letters, most_of_inverse};
 ghost use Rattle.words.specs.Word.{nf, inverse};
@@ -14,45 +13,33 @@ ghost use Rattle.slices.specs.Slices.{overwritten};
 ghost use Rattle.words.specs.Account.{Accounts};
 ghost use Rattle.words.specs.Calls.{Reduces, Writes, Tests};
 
-pub use refusals::{Asked, Refusal};
+// Callers of words name a refusal by this crate too.
+pub use refusals::Refusal;
 
 // A length in letters. It is never added to a length in factors.
-#[derive(Clone, Copy)]
+#[derive(Clone, Copy, Debug, PartialEq, Eq, PartialOrd, Ord)]
 pub struct Letters(pub u16);
 
 // A length in factors.
-#[derive(Clone, Copy)]
+#[derive(Clone, Copy, Debug, PartialEq, Eq, PartialOrd, Ord)]
 pub struct Factors(pub u16);
 
 // What became of a word's letters in reduction: how many were kept, and how many pairs RR and triples SSS went. Pairs and triples are counts of their own,
 // and are added neither to letters nor to factors.
-#[derive(Clone, Copy)]
+#[derive(Clone, Copy, Debug, PartialEq, Eq)]
 pub struct Account {
     pub kept: Letters,
     pub pairs: u16,
     pub triples: u16,
 }
 
-// The answer of reduction.
-#[derive(Clone, Copy)]
-pub enum Reduction {
-    Done(Account),
-    Refused(Refusal),
-}
-
-// The answer of another call that writes a word: the length written.
-#[derive(Clone, Copy)]
-pub enum Written {
-    Length(Letters),
-    Refused(Refusal),
-}
-
-// The answer of the test of normality.
-#[derive(Clone, Copy)]
-pub enum Tested {
-    Normal,
-    NotNormal,
-    Refused(Refusal),
+// What a word ends in, as a letter that arrives meets it: nothing, R, S or SS.
+#[derive(Clone, Copy, Debug, PartialEq, Eq)]
+pub enum Ending {
+    Nothing,
+    R,
+    S,
+    SS,
 }
 
 // Writes the first `len` letters of a stack to the front of `out`.
@@ -63,7 +50,7 @@ fn write_out(stack: &[u8], len: usize, out: &mut [u8]) -> Letters
     ensures result_value { result.0 ≡ len }
     ensures out_after { out.new ≡ overwritten (take len stack.now) out.old }
 {
-    slices::copying::copy_at(&stack[..len], out, 0);
+    out[..len].copy_from_slice(&stack[..len]);
     Letters(len as u16)
 }
 
@@ -90,7 +77,8 @@ fn reduce_on(stack: &mut [u8], word: &[u8], out: &mut [u8]) -> Account
     }
 }
 
-// Writes the normal form of the inverse of `word` to the front of `out`, by a stack that is lent for its letters.
+// Writes the normal form of the inverse of `word` to the front of `out`, by a stack that is lent for its letters. Not one
+// function with `reduce_on`: the letters come by another loop, and what went is not told.
 fn invert_on(stack: &mut [u8], word: &[u8], out: &mut [u8]) -> Letters
     requires word_in_bounds { 2 * length word.now ≤ length stack.old }
     requires word_in_bounds_2 { 2 * length word.now ≤ length out.old }
@@ -103,52 +91,32 @@ fn invert_on(stack: &mut [u8], word: &[u8], out: &mut [u8]) -> Letters
 }
 
 // Writes the normal form of `word` to the front of `out`, and tells how many pairs and triples went.
-pub fn reduce(word: &[u8], out: &mut [u8]) -> Reduction
+pub fn reduce(word: &[u8], out: &mut [u8]) -> Result<Account, Refusal>
     ensures { Reduces word.now out.old result out.new }
 {
-    match refusals::of_word(word, word.len(), out.len()) {
-        Asked::Refused(refusal) => Reduction::Refused(refusal),
-        Asked::Passed => {
-            if word.len() <= FEW {
-                let mut stack = [0u8; FEW];
-                return Reduction::Done(reduce_on(&mut stack, word, out));
-            }
-            let mut stack = [0u8; limits::WORD_LETTERS];
-            Reduction::Done(reduce_on(&mut stack, word, out))
-        }
+    refusals::of_word(word, word.len(), out.len())?;
+    if word.len() <= FEW {
+        return Ok(reduce_on(&mut [0; FEW], word, out));
     }
+    Ok(reduce_on(&mut [0; limits::WORD_LETTERS], word, out))
 }
 
-// Writes the normal form of the inverse of `word` to the front of `out`.
-pub fn invert(word: &[u8], out: &mut [u8]) -> Written
+// Writes the normal form of the inverse of `word` to the front of `out`, and tells its length.
+pub fn invert(word: &[u8], out: &mut [u8]) -> Result<Letters, Refusal>
     ensures { Writes (λ w. nf (inverse w)) 2 word.now out.old result out.new }
 {
-    match refusals::of_word(word, 2 * word.len(), out.len()) {
-        Asked::Refused(refusal) => Written::Refused(refusal),
-        Asked::Passed => {
-            if 2 * word.len() <= FEW {
-                let mut stack = [0u8; FEW];
-                return Written::Length(invert_on(&mut stack, word, out));
-            }
-            let mut stack = [0u8; limits::INVERSE_ROOM];
-            Written::Length(invert_on(&mut stack, word, out))
-        }
+    refusals::of_word(word, 2 * word.len(), out.len())?;
+    if 2 * word.len() <= FEW {
+        return Ok(invert_on(&mut [0; FEW], word, out));
     }
+    Ok(invert_on(&mut [0; limits::INVERSE_ROOM], word, out))
 }
 
 // Says whether `word` is in normal form. Questions 8 and 10 come first, so the test inside is at most as many calls deep as question 8
 // lets letters pass.
-pub fn is_normal(word: &[u8]) -> Tested
+pub fn is_normal(word: &[u8]) -> Result<bool, Refusal>
     ensures { Tests word.now result }
 {
-    match refusals::of_letters(word) {
-        Asked::Refused(refusal) => Tested::Refused(refusal),
-        Asked::Passed => {
-            if normality::normal_from(word, 0) {
-                Tested::Normal
-            } else {
-                Tested::NotNormal
-            }
-        }
-    }
+    refusals::of_letters(word)?;
+    Ok(normality::normal(word))
 }

@@ -1,56 +1,42 @@
 // The test of normality, by parts. Document 01: "An R part is followed by an S part or nothing, an S part by an R part or nothing;
-// an R part is one R and an S part is S or SS."
-ghost use Rattle.std.specs.Prelude.{◌≤◌, length, drop};
+// an R part is one R and an S part is S or SS." Its sentence has a function for each kind of part.
 ghost use Rattle.words.specs.Bytes.{word as word_of};
 ghost use Rattle.refusals.specs.Telling.{Tells};
 ghost use Rattle.words.specs.Parts.{FromRPart, FromSPart, Parts};
 
-// Is the word from `at` on nothing, or parts that follow one another so?
-pub(crate) fn normal_from(word: &[u8], at: usize) -> bool
-    requires { at ≤ length word.now }
-    ensures { Tells result (Parts (word_of (drop at word.now))) }
+// Is the word nothing, or parts that follow one another so?
+pub(crate) fn normal(word: &[u8]) -> bool
+    ensures { Tells result (Parts (word_of word.now)) }
 {
-    if at == word.len() {
-        return true;
+    match word {
+        [] => true,
+        [b'R', ..] => from_r_part(word),
+        _ => from_s_part(word),
     }
-    if word[at] == 82 {
-        return from_r_part(word, at);
-    }
-    from_s_part(word, at)
 }
 
-// Is the word from `at` on nothing, or an R part that is followed by an S part or nothing, and so on?
+// Is the word nothing, or an R part that is followed by an S part or nothing, and so on?
 #[cycle(from_r_part_from_s_part)]
-fn from_r_part(word: &[u8], at: usize) -> bool
-    requires { at ≤ length word.now }
-    ensures { Tells result (FromRPart (word_of (drop at word.now))) }
+fn from_r_part(word: &[u8]) -> bool
+    ensures { Tells result (FromRPart (word_of word.now)) }
 {
-    if at == word.len() {
-        return true;
+    match word {
+        [] => true,
+        [b'R', rest @ ..] => from_s_part(rest),
+        _ => false,
     }
-    if word[at] == 82 {
-        return from_s_part(word, at + 1);
-    }
-    false
 }
 
-// Is the word from `at` on nothing, or an S part that is followed by an R part or nothing, and so on?
+// Is the word nothing, or an S part that is followed by an R part or nothing, and so on?
 #[cycle(from_r_part_from_s_part)]
-fn from_s_part(word: &[u8], at: usize) -> bool
-    requires { at ≤ length word.now }
-    ensures { Tells result (FromSPart (word_of (drop at word.now))) }
+fn from_s_part(word: &[u8]) -> bool
+    ensures { Tells result (FromSPart (word_of word.now)) }
 {
-    if at == word.len() {
-        return true;
+    match word {
+        [] => true,
+        [b'R', ..] => false,
+        [_] => true,
+        [_, b'R', ..] => from_r_part(&word[1..]),
+        [_, _, rest @ ..] => from_r_part(rest),
     }
-    if word[at] == 82 {
-        return false;
-    }
-    if at + 1 == word.len() {
-        return true;
-    }
-    if word[at + 1] == 82 {
-        return from_r_part(word, at + 1);
-    }
-    from_r_part(word, at + 2)
 }

@@ -11,7 +11,7 @@ ghost use Rattle.words_trial.specs.Period.{byte_in, next_column, with_s};
 
 use std::io;
 use std::io::Write;
-use words::{Letters, Reduction, Tested, Written};
+use words::{Account, Letters, Refusal};
 
 fn print_call(output: &mut impl Write, call: &[u8], word: &[u8]) -> io::Result<()> {
     output.write_all(call)?;
@@ -31,23 +31,23 @@ fn print_slice(output: &mut impl Write, out: &[u8]) -> io::Result<()> {
     writeln!(output, "'")
 }
 
-fn print_reduction(output: &mut impl Write, answer: Reduction) -> io::Result<()> {
+fn print_reduction(output: &mut impl Write, answer: Result<Account, Refusal>) -> io::Result<()> {
     match answer {
-        Reduction::Done(account) => {
+        Ok(account) => {
             print_length(output, account.kept)?;
             write!(output, ", pairs")?;
             showing::number(output, account.pairs)?;
             write!(output, ", triples")?;
             showing::number(output, account.triples)
         }
-        Reduction::Refused(refusal) => showing::refusal(output, refusal),
+        Err(refusal) => write!(output, "{refusal}"),
     }
 }
 
-fn print_written(output: &mut impl Write, answer: Written) -> io::Result<()> {
+fn print_written(output: &mut impl Write, answer: Result<Letters, Refusal>) -> io::Result<()> {
     match answer {
-        Written::Length(letters) => print_length(output, letters),
-        Written::Refused(refusal) => showing::refusal(output, refusal),
+        Ok(letters) => print_length(output, letters),
+        Err(refusal) => write!(output, "{refusal}"),
     }
 }
 
@@ -72,9 +72,9 @@ fn invert(output: &mut impl Write, word: &[u8], out: &mut [u8]) -> io::Result<()
 fn is_normal(output: &mut impl Write, word: &[u8]) -> io::Result<()> {
     print_call(output, b"is_normal", word)?;
     match words::is_normal(word) {
-        Tested::Normal => write!(output, "yes")?,
-        Tested::NotNormal => write!(output, "no")?,
-        Tested::Refused(refusal) => showing::refusal(output, refusal)?,
+        Ok(true) => write!(output, "yes")?,
+        Ok(false) => write!(output, "no")?,
+        Err(refusal) => write!(output, "{refusal}")?,
     }
     writeln!(output)
 }
@@ -104,7 +104,7 @@ fn byte_in(b: u8, column: usize) -> u8
     if column == 0 {
         return b;
     }
-    83
+    b'S'
 }
 
 // The column after a column, of as many as the period has places.
@@ -133,20 +133,20 @@ fn put_s(word: &mut [u8], period: usize)
 }
 
 fn longest_words(output: &mut impl Write) -> io::Result<()> {
-    let all_r = [82u8; limits::WORD_LETTERS];
+    let all_r = [b'R'; limits::WORD_LETTERS];
     long(output, &all_r)?;
-    let all_s = [83u8; limits::WORD_LETTERS];
+    let all_s = [b'S'; limits::WORD_LETTERS];
     long(output, &all_s)?;
-    let mut alternating = [82u8; limits::WORD_LETTERS];
+    let mut alternating = [b'R'; limits::WORD_LETTERS];
     put_s(&mut alternating, 2);
     long(output, &alternating)?;
-    let mut shrinking = [82u8; limits::WORD_LETTERS];
+    let mut shrinking = [b'R'; limits::WORD_LETTERS];
     put_s(&mut shrinking, 3);
     long(output, &shrinking)?;
-    let mut vanishing = [82u8; limits::WORD_LETTERS];
+    let mut vanishing = [b'R'; limits::WORD_LETTERS];
     put_s(&mut vanishing, 4);
     long(output, &vanishing)?;
-    let too_long = [82u8; limits::WORD_LETTERS + 1];
+    let too_long = [b'R'; limits::WORD_LETTERS + 1];
     long(output, &too_long)
 }
 
@@ -155,10 +155,10 @@ fn refused_letters(output: &mut impl Write) -> io::Result<()> {
     short(output, b"RTS")?;
     short(output, b"RST")?;
     short(output, b"RS?T")?;
-    let mut bad_last = [82u8; limits::WORD_LETTERS];
+    let mut bad_last = [b'R'; limits::WORD_LETTERS];
     bad_last[limits::WORD_LETTERS - 1] = 88;
     long(output, &bad_last)?;
-    let mut bad_and_too_long = [82u8; limits::WORD_LETTERS + 1];
+    let mut bad_and_too_long = [b'R'; limits::WORD_LETTERS + 1];
     bad_and_too_long[0] = 88;
     long(output, &bad_and_too_long)
 }

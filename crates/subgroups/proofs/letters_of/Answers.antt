@@ -24,13 +24,13 @@ within c inverse? e =
 
 pub slice_bounds-result-count : goal.slice_bounds-result-count
 slice_bounds-result-count c =
-    omega (arith, c.wide-start.ensures, c.wide-end.ensures, (inside (goal.at.slice_bounds-result-count c).After-part_of-part).0)
+    omega (arith, c.from-start.ensures, c.from-end.ensures, (inside (goal.at.slice_bounds-result-count c).After-part_of-part).0)
 
 pub returns-then-part : goal.returns-then-part
 returns-then-part c =
     let a = c.args in
-    let from = c.wide-start in
-    let to = c.wide-end in
+    let from = c.from-start in
+    let to = c.from-end in
     part_shows a.given a.inverses _ a.ends.now a.number c.part_of-part.result c.part_of-part.ensures true from.result to.result
     c.if-part.true from.ensures to.ensures
     (record {
@@ -43,13 +43,13 @@ returns-then-part c =
 
 pub slice_bounds-result-count-2 : goal.slice_bounds-result-count-2
 slice_bounds-result-count-2 c =
-    omega (arith, c.wide-start.ensures, c.wide-end.ensures, (inside (goal.at.slice_bounds-result-count-2 c).After-part_of-part).0)
+    omega (arith, c.from-start.ensures, c.from-end.ensures, (inside (goal.at.slice_bounds-result-count-2 c).After-part_of-part).0)
 
 pub returns : goal.returns
 returns c =
     let a = c.args in
-    let from = c.wide-start in
-    let to = c.wide-end in
+    let from = c.from-start in
+    let to = c.from-end in
     part_shows a.given a.inverses _ a.ends.now a.number c.part_of-part.result c.part_of-part.ensures false from.result to.result
     c.if-part.false from.ensures to.ensures
     (record {
@@ -62,14 +62,14 @@ returns c =
 
 pub slice_bounds-result-start : goal.slice_bounds-result-start
 slice_bounds-result-start c =
-    omega (arith, c.wide-start.ensures, c.wide-end.ensures, (inside (goal.at.slice_bounds-result-start c).After-part_of-part).0)
+    omega (arith, c.from-start.ensures, c.from-end.ensures, (inside (goal.at.slice_bounds-result-start c).After-part_of-part).0)
 
 pub slice_bounds-result-end : goal.slice_bounds-result-end
-slice_bounds-result-end c = omega (arith, c.wide-end.ensures, within (goal.at.slice_bounds-result-end c).After-part_of-part true c.if-part.true)
+slice_bounds-result-end c = omega (arith, c.from-end.ensures, within (goal.at.slice_bounds-result-end c).After-part_of-part true c.if-part.true)
 
 pub slice_bounds-result-start-2 : goal.slice_bounds-result-start-2
 slice_bounds-result-start-2 c =
-    omega (arith, c.wide-start.ensures, c.wide-end.ensures, (inside (goal.at.slice_bounds-result-start-2 c).After-part_of-part).0)
+    omega (arith, c.from-start.ensures, c.from-end.ensures, (inside (goal.at.slice_bounds-result-start-2 c).After-part_of-part).0)
 
 pub slice_bounds-result-end-2 : goal.slice_bounds-result-end-2
-slice_bounds-result-end-2 c = omega (arith, c.wide-end.ensures, within (goal.at.slice_bounds-result-end-2 c).After-part_of-part false c.if-part.false)
+slice_bounds-result-end-2 c = omega (arith, c.from-end.ensures, within (goal.at.slice_bounds-result-end-2 c).After-part_of-part false c.if-part.false)

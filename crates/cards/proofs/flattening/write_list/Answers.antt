@@ -1,74 +1,51 @@
--- After i turns the first i generators stand in the fronts of the two slices, and the others in the rest of the card. Assumes nothing.
-use mathlib.Core.Path.{◌≡◌, refl, sym, subst, ◌∙◌}
-use Prim.Native.Nat.{ℕ, ◌+◌, ◌≤◌, ◌<◌}
-use native.Mathlib.Omega.{arith}
-use lib.ListN.{length}
+-- The generator that is read next is the list's next, and has room in both slices. Assumes nothing.
+use Rattle.std.proofs.Common.{◌≡◌, ◌+◌, ◌≤◌, ◌<◌, length, refl, arith}
 use Rattle.limits.specs.Limits.{most_letters}
-use Rattle.cards.proofs.PushingList.{Pushing, pushing_begins, pushing_short, pushing_place, pushing_sum, pushing_more, pushing_over}
-use Rattle.cards.proofs.flattening.write_list.Goals.{After-push_generator-len}
+use Rattle.fields.specs.Field.{Whole, letters_field}
+use Rattle.cards.proofs.LettersRead.{letters_some}
+use Rattle.cards.proofs.PushingList.{copied, first, pushing_begins, pushing_within, pushing_more, pushing_over}
+use Rattle.cards.proofs.flattening.write_list.Goals.{After-unwrap}
 use Rattle.cards.proofs.flattening.write_list.Goals as goal
 
 pub loop-i-init : goal.loop-i-init
 loop-i-init c =
     let a = c.args in
-    (omega arith, refl, refl, λ list listed. pushing_begins a.card.now a.start a.count list a.letters.now a.ends.now listed)
+    λ list listed. pushing_begins a.list.bytes.now a.list.count list a.letters.now a.ends.now listed
 
-pub push_generator-len-requires : goal.push_generator-len-requires
-push_generator-len-requires c =
-    let l = c.loop-i in
-    let more : l.i < c.args.count = omega arith in
+pub unwrap-requires : goal.unwrap-requires
+unwrap-requires c =
     let (list, listed, few) = c.requires.short_listed in
-    record {
-      short_generator = pushing_short (l.invariant.3 list listed) more few;
-      most_letters_in_bounds = (omega arith, omega arith);
-    }
+    letters_some (letters_field c.loop-i.rest.now) c.letters.result c.letters.ensures (first (c.loop-i.invariant list listed) (omega arith)).there
 
-more : (c : After-push_generator-len) → c.loop-i.i < c.args.count
+-- the generator that was read
+read : (c : After-unwrap) → letters_field c.loop-i.rest.now ≡ Whole c.unwrap.result.0.now c.unwrap.result.1.now
+read c = let (g, whole, same) = rw c.unwrap.ensures at c.letters.ensures in rw same whole
+
+more : (c : After-unwrap) → c.loop-i.i < c.args.list.count
 more c = omega arith
 
-place : (c : After-push_generator-len) → c.loop-i.at + 2 + c.push_generator-len.result.0 ≤ length c.args.card.now
-place c =
+within : (c : After-unwrap) → c.loop-i.sum + length c.unwrap.result.0.now ≤ most_letters
+within c =
     let (list, listed, few) = c.requires.short_listed in
-    pushing_place (c.loop-i.invariant.3 list listed) (more c) c.push_generator-len.ensures
+    omega (arith, few, pushing_within (c.loop-i.invariant list listed) (more c) (read c))
 
-sum_fits : (c : After-push_generator-len) → c.loop-i.sum.0 + c.push_generator-len.result.0 ≤ most_letters
-sum_fits c =
-    let (list, listed, few) = c.requires.short_listed in
-    omega (arith, few, pushing_sum (c.loop-i.invariant.3 list listed) (more c) c.push_generator-len.ensures)
+pub overflow_add-end : goal.overflow_add-end
+overflow_add-end c = record { fits = omega (arith, within (goal.at.overflow_add-end c).After-unwrap) }
 
--- ---- the other needs
-pub overflow_add-at : goal.overflow_add-at
-overflow_add-at c = record { fits = omega (arith, place (goal.at.overflow_add-at c).After-push_generator-len) }
+pub slice_bounds-copy_from_slice-end : goal.slice_bounds-copy_from_slice-end
+slice_bounds-copy_from_slice-end c =
+    omega (arith, within (goal.at.slice_bounds-copy_from_slice-end c).After-unwrap, c.requires.room.0, c.loop-i.auto.letters)
 
-pub overflow_add-at-in-loop-i : goal.overflow_add-at-in-loop-i
-overflow_add-at-in-loop-i c = record { fits = omega (arith, c.wide.ensures, place (goal.at.overflow_add-at-in-loop-i c).After-push_generator-len) }
-
-pub overflow_add-sum : goal.overflow_add-sum
-overflow_add-sum c = record { fits = omega (arith, sum_fits (goal.at.overflow_add-sum c).After-push_generator-len) }
+pub overflow_cast-ends : goal.overflow_cast-ends
+overflow_cast-ends c = record { fits = omega (arith, within (goal.at.overflow_cast-ends c).After-unwrap) }
 
 pub loop-i-preserved : goal.loop-i-preserved
 loop-i-preserved c =
-    let a = c.args in
     let l = c.loop-i in
-    let w = c.push_generator-len in
-    let room : l.i < length a.ends.now = omega (arith, c.requires.most_letters_in_bounds.1) in (
-      omega arith,
-      w.auto.letters ∙ l.invariant.1,
-      w.auto.ends ∙ l.invariant.2,
-      λ list listed.
-          subst
-          (λ (k : ℕ). Pushing a.card.now a.count list a.letters.now a.ends.now w.new.letters w.new.ends (l.at + 2 + k) (l.sum.0 + w.result.0) (l.i + 1))
-          (sym c.wide.ensures) (pushing_more (l.invariant.3 list listed) (more (goal.at.loop-i-preserved c).After-push_generator-len) w.ensures room),
-    )
-
-pub shape_of-letters : goal.shape_of-letters
-shape_of-letters c = c.loop-i.invariant.1
-
-pub shape_of-ends : goal.shape_of-ends
-shape_of-ends c = c.loop-i.invariant.2
+    let u = (goal.at.loop-i-preserved c).After-unwrap in
+    λ list listed.
+    pushing_more (l.invariant list listed) (more u) (read u)
+    (rw c.copy_from_slice.ensures.after (copied l.letters c.unwrap.result.0.now l.sum _ (omega arith))) refl (omega (arith, c.requires.room.1))
 
 pub returns : goal.returns
-returns c =
-    let l = c.loop-i in
-    let over : l.i ≡ c.args.count = omega arith in
-    λ list listed. pushing_over (l.invariant.3 list listed) over
+returns c = λ list listed. pushing_over (c.loop-i.invariant list listed) (omega arith)

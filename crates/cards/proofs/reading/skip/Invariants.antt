@@ -1,10 +1,8 @@
--- `cards::reading::skip` meets its contract: the generators that remain, from where the last one ended, always lead to the place behind all of them. The measure is how many remain.
--- Assumes nothing.
-use Rattle.cards.proofs.PlacedLists.{Remaining}
+-- The generators that remain lead behind all of them.
+use Rattle.std.proofs.Common.{◌-◌}
+use Rattle.cards.specs.Card.{generator_fields}
+use Rattle.cards.proofs.Skipping.{Remaining}
 use Rattle.cards.proofs.reading.skip.Given as goal
 
-abbrev pub invariant-loop-left : goal.invariant-loop-left
-invariant-loop-left l = Remaining l.card l.count l.at l.left l.end
-
-abbrev pub decreases-loop-left : goal.decreases-loop-left
-decreases-loop-left l = l.left
+abbrev pub invariant-loop : goal.invariant-loop
+invariant-loop l = Remaining (generator_fields l.count l.card) (l.count - l.counter) l.rest

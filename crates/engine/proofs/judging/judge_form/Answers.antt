@@ -2,14 +2,14 @@
 use mathlib.Core.Path.{◌≡◌, sym, ◌∙◌}
 use Prim.Native.Nat.{ℕ}
 use lib.ListN.{length, length-map}
+use Rattle.std.proofs.lemmas.Result.{err_from_is_err_and}
 use Rattle.words.specs.Bytes.{letter, word}
-use Rattle.refusals.specs.declared.Asked.{Asked}
-use Rattle.refusals.specs.declared.Asked.TheVariants.{Passed}
+use Rattle.refusals.specs.Questions.{Asked, passed}
 use Rattle.products.specs.Product.{plain}
 use Rattle.sizes.specs.Questions.{side, of_sizes}
 use Rattle.engine.specs.Calls.{Lent}
 use Rattle.engine.proofs.Verdicts.{judged_refused, judged_passed}
-use Rattle.engine.proofs.judging.judge_form.Goals.{In-Passed, Start}
+use Rattle.engine.proofs.judging.judge_form.Goals.{Start}
 use Rattle.engine.proofs.judging.judge_form.Goals as goal
 
 -- what is lent
@@ -26,24 +26,21 @@ answered s =
 abbrev q : Start → ℕ
 q s = side s.args.m.0 (length (word s.args.form.now))
 
--- the sizes have passed
-passed : (c : In-Passed) → (let a = c.args in
-    of_sizes a.m.0 (length (word a.form.now)) a.n.0
-    (length a.first.now) (length a.second.now) (length a.witness.now)) ≡ Passed
-passed c = rw (length-map c.args.form.now letter) (sym c.of_sizes.ensures ∙ c.in-Passed.is)
-
-pub returns-in-Refused : goal.returns-in-Refused
-returns-in-Refused c =
-    let a = c.args in
+pub returns-in_err-of_sizes : goal.returns-in_err-of_sizes
+returns-in_err-of_sizes c =
+    let s = (goal.at.returns-in_err-of_sizes c).Start in
+    let p = err_from_is_err_and c.from_residual.result c.from_residual.ensures.1 in
     λ gens ready.
-    judged_refused (q (goal.at.returns-in-Refused c).Start) (plain gens) (word a.form.now) a.n.0 (answered (goal.at.returns-in-Refused c).Start) (lent (goal.at.returns-in-Refused c).Start)
-    (rw (length-map a.form.now letter) (sym c.of_sizes.ensures ∙ c.in-Refused.is))
+    rw (p.1, p.2)
+    (judged_refused (q s) (plain gens) (word c.args.form.now) c.args.n.0 (answered s) (lent s)
+    (rw (length-map c.args.form.now letter) (sym c.of_sizes.ensures ∙ c.in_err-of_sizes.was)))
 
-pub returns-in-Passed : goal.returns-in-Passed
-returns-in-Passed c =
-    let a = c.args in
+pub returns : goal.returns
+returns c =
+    let s = (goal.at.returns c).Start in
     let v = c.settle in
+    let passes : answered s ≡ passed = rw (length-map c.args.form.now letter) (sym c.of_sizes.ensures ∙ c.in_ok-of_sizes.was) in
     λ gens ready.
-    judged_passed (q (goal.at.returns-in-Passed c).Start) (plain gens) (word a.form.now) a.n.0 (answered (goal.at.returns-in-Passed c).Start) v.result (lent (goal.at.returns-in-Passed c).Start)
-    (record { first = c.settle.new.first; second = c.settle.new.second; witness = c.settle.new.witness })
-    (passed (goal.at.returns-in-Passed c).In-Passed) (v.ensures gens ready (passed (goal.at.returns-in-Passed c).In-Passed))
+    judged_passed (q s) (plain gens) (word c.args.form.now) c.args.n.0 (answered s) v.result (lent s)
+    (record { first = v.new.first; second = v.new.second; witness = v.new.witness })
+    passes (v.ensures gens ready passes)

@@ -1,12 +1,9 @@
 -- The first i ends do not fall, so the first that does is i and then some. Assumes nothing.
 use mathlib.Core.Path.{◌≡◌}
-use Prim.Native.Nat.{◌+◌, ◌-◌, ◌≤◌}
-use lib.ListN.{length, drop}
+use Prim.Native.Nat.{◌+◌}
+use lib.ListN.{drop}
 use Rattle.lists.specs.Questions.{first_fall}
 use Rattle.lists.proofs.ends.first_fall.Given as goal
 
 abbrev pub invariant-loop-i : goal.invariant-loop-i
-invariant-loop-i l = (l.i ≤ length l.ends) × (first_fall 0 l.ends ≡ l.i + first_fall l.from (drop l.i l.ends))
-
-abbrev pub decreases-loop-i : goal.decreases-loop-i
-decreases-loop-i l = length l.ends - l.i
+invariant-loop-i l = first_fall 0 l.ends ≡ l.i + first_fall l.from (drop l.i l.ends)

@@ -1,7 +1,6 @@
 -- Behind the list the inverses of the first i generators are written, one behind the other, with their ends. Assumes nothing.
 use mathlib.Core.Path.{◌≡◌}
 use mathlib.Core.List.{List}
-use Prim.Native.Nat.{◌-◌, ◌≤◌}
 use lib.ListN.{length}
 use Rattle.words.specs.Word.{Word}
 use Rattle.lists.specs.Reducing.{ReducedFrom}
@@ -10,8 +9,8 @@ use Rattle.lists.proofs.inverting.write_signed.Given as goal
 
 abbrev pub invariant-loop-i : goal.invariant-loop-i
 invariant-loop-i l =
-    (l.i ≤ length l.ends) × (length l.out ≡ length l.initial.out) × (length l.out_ends ≡ length l.initial.out_ends)
-    × ((gens : List Word) → ReducedFrom gens l.letters l.ends → Inverting gens l.letters l.ends l.initial.out_ends l.sum.0 l.from l.i l.out l.out_ends)
-
-abbrev pub decreases-loop-i : goal.decreases-loop-i
-decreases-loop-i l = length l.ends - l.i
+    record {
+      room : length l.out ≡ length l.initial.out;
+      room_ends : length l.out_ends ≡ length l.initial.out_ends;
+      inverting : (gens : List Word) → ReducedFrom gens l.letters l.ends → Inverting gens l.letters l.ends l.initial.out_ends l.sum.0 l.from l.i l.out l.out_ends;
+    }

@@ -6,16 +6,6 @@ use Rattle.matrices.specs.Entries.{matrix}
 use Rattle.matrices.proofs.Signed.{read, negation}
 use Rattle.matrices.proofs.Matrix.times_r.Goals as goal
 
-pub overflow_sub-result : goal.overflow_sub-result
-overflow_sub-result c =
-    let m = c.args.self in
-    (negation (read m.a (omega arith)) (omega arith)).within
-
-pub overflow_sub-result-2 : goal.overflow_sub-result-2
-overflow_sub-result-2 c =
-    let m = c.args.self in
-    (negation (read m.c (omega arith)) (omega arith)).within
-
 pub returns : goal.returns
 returns c =
     let m = c.args.self in

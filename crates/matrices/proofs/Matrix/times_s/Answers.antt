@@ -6,26 +6,6 @@ use Rattle.matrices.specs.Entries.{matrix}
 use Rattle.matrices.proofs.Signed.{read, sum, negation}
 use Rattle.matrices.proofs.Matrix.times_s.Goals as goal
 
-pub overflow_add-result : goal.overflow_add-result
-overflow_add-result c =
-    let m = c.args.self in
-    (sum (read m.a (omega arith)) (read m.b (omega arith)) (omega arith)).within
-
-pub overflow_sub-result : goal.overflow_sub-result
-overflow_sub-result c =
-    let m = c.args.self in
-    (negation (read m.a (omega arith)) (omega arith)).within
-
-pub overflow_add-result-2 : goal.overflow_add-result-2
-overflow_add-result-2 c =
-    let m = c.args.self in
-    (sum (read m.c (omega arith)) (read m.d (omega arith)) (omega arith)).within
-
-pub overflow_sub-result-2 : goal.overflow_sub-result-2
-overflow_sub-result-2 c =
-    let m = c.args.self in
-    (negation (read m.c (omega arith)) (omega arith)).within
-
 pub returns : goal.returns
 returns c =
     let m = c.args.self in

@@ -4,14 +4,14 @@ use native.Mathlib.Omega.{arith}
 use lib.IntN.{◌-ℤ◌, ◌*ℤ◌}
 use Rattle.unimodular.specs.Matrix.{Matrix, determinant}
 use Rattle.unimodular.proofs.Integers.{nat_abs-*ℤ}
-use Rattle.refusals.specs.declared.Asked.TheVariants.{Passed}
+use Rattle.refusals.specs.Questions.{passed}
 use Rattle.matrices.specs.Entries.{matrix}
 use Rattle.matrices.specs.Questions.{question5}
 use Rattle.matrices.proofs.Signed.{reading, Computes, read, product, difference}
 use Rattle.matrices.proofs.Range.{Small, small_of_passed, product_small}
 use Rattle.matrices.proofs.questions.determinant.Goals as goal
 
-module _ (m : Matrix) (e : question5 m ≡ Passed) where
+module _ (m : Matrix) (e : question5 m ≡ passed) where
   small : Small m
   small = small_of_passed m e
 
@@ -30,12 +30,6 @@ module _ (m : Matrix) (e : question5 m ≡ Passed) where
       let s = small in
       difference ad.value bc.value
       (omega (arith, nat_abs-*ℤ m.a m.d, nat_abs-*ℤ m.b m.c, product_small m.a m.d s.a_small s.d_small, product_small m.b m.c s.b_small s.c_small))
-
-pub overflow_mul-result : goal.overflow_mul-result
-overflow_mul-result c = (ad (matrix c.args.m) c.requires).within
-
-pub overflow_mul-result-2 : goal.overflow_mul-result-2
-overflow_mul-result-2 c = (bc (matrix c.args.m) c.requires).within
 
 pub overflow_sub-result : goal.overflow_sub-result
 overflow_sub-result c = (ad-bc (matrix c.args.m) c.requires).within

@@ -1,40 +1,15 @@
--- What stands from `at` on is what was taken off. Each turn takes a part off, so `at` falls. Assumes nothing.
-use mathlib.Core.Path.{sym, ◌∙◌}
-use Rattle.matrices.specs.Entries.{matrix}
-use Rattle.matrices.proofs.Parts.{spelling_begins, spelling_more, spelling_ends, spelling_stops, part_not_empty}
-use native.Mathlib.Omega.{arith}
+-- What stands from `at` on is what was taken off, until nothing is left or enough stands there. Assumes nothing.
+use Rattle.std.proofs.Common.{◌≡◌, sym, ap, ◌∙◌, arith, rules}
+use Rattle.words.specs.declared.Ending.TheVariants.{Nothing}
+use Rattle.matrices.specs.Spelling.{number}
+use Rattle.matrices.proofs.Parts.{spelling_more, spelling_ends, spelling_stops}
 use Rattle.matrices.proofs.spelling.spell.Goals as goal
 
-pub loop-at-init : goal.loop-at-init
-loop-at-init c =
-    (omega arith, omega arith, spelling_begins (matrix c.args.m) c.args.form.now _ c.requires.m_value c.requires.m_bound (omega arith))
-
-pub ending-last-requires : goal.ending-last-requires
-ending-last-requires c = omega (arith, c.loop-at.invariant.2.not_large)
-
-pub shape_of-form-then-last-eq0 : goal.shape_of-form-then-last-eq0
-shape_of-form-then-last-eq0 c = c.loop-at.invariant.0
-
-pub returns-then-last-eq0 : goal.returns-then-last-eq0
-returns-then-last-eq0 c = spelling_ends c.loop-at.invariant.2 (sym c.ending-last.ensures ∙ c.if-last-eq0.true) c.loop-at-test.true c.loop-at.invariant.1
-
-pub prepend_part-at-requires : goal.prepend_part-at-requires
-prepend_part-at-requires c = record {
-  ending_nonzero = omega (arith, c.if-last-eq0.false);
-  lt_at = (c.loop-at-test.true, c.loop-at.invariant.1);
-}
-
-pub without_last_part-left-requires : goal.without_last_part-left-requires
-without_last_part-left-requires c = record {
-  ending_nonzero = omega (arith, c.if-last-eq0.false);
-  m_bound = c.loop-at.invariant.2.not_large;
-}
-
-pub loop-at-smaller : goal.loop-at-smaller
-loop-at-smaller c = omega (arith, c.prepend_part-at.ensures.0, part_not_empty c.ending-last.result (omega (arith, c.if-last-eq0.false)))
-
-pub shape_of-form : goal.shape_of-form
-shape_of-form c = c.loop-at.invariant.0
+pub returns-then-eq : goal.returns-then-eq
+returns-then-eq c =
+    let l = c.loop-at in
+    let nothing : c.ending-last.result ≡ Nothing = search rules in
+    spelling_ends l.invariant.2 (sym c.ending-last.ensures ∙ ap number nothing) c.loop-at-test.true l.invariant.1
 
 pub returns : goal.returns
 returns c =

@@ -4,9 +4,9 @@ use mathlib.Core.List.{List}
 use Prim.Native.Nat.{ℕ}
 use lib.ListN.{length, take, drop}
 use lib.Seq.{length-take-le, take_at, drop_at}
+use Rattle.std.specs.Prelude.{Result, Ok}
+use Rattle.trees.specs.declared.Unfit.{Unfit}
 use Rattle.trees.specs.Building.{Slices, BuildsTree, Builds}
-use Rattle.trees.specs.declared.Built.{Built}
-use Rattle.trees.specs.declared.Built.TheVariants.{Nodes}
 use Rattle.queries.proofs.ReducedList.{list_fits}
 use native.Mathlib.Omega.{arith}
 use Rattle.queries.proofs.posing.plant.Goals.{After-build}
@@ -38,22 +38,22 @@ grown c wholes =
       wholes = wholes;
     }
 
-tree : (c : After-build) {count : ℕ} → c.build.result ≡ Nodes count
+tree : (c : After-build) {count : ℕ} → c.build.result ≡ Ok count
     → BuildsTree c.args.list_letters.now c.args.list_ends.now (given c) (grown c c.build.new.wholes) count
 tree c e =
-    subst (λ (r : Built). Builds c.args.list_letters.now c.args.list_ends.now (given c) (grown c c.build.new.wholes) r) e c.build.ensures
+    subst (λ (r : Result ℕ Unfit). Builds c.args.list_letters.now c.args.list_ends.now (given c) (grown c c.build.new.wholes) r) e c.build.ensures
 
 pub slice_bounds-build-end-2 : goal.slice_bounds-build-end-2
 slice_bounds-build-end-2 c = sym (length-take-le (length c.args.list_ends.now) c.args.wholes.now (omega (arith, c.requires.room_wholes)))
 
-pub returns-in-Unfit : goal.returns-in-Unfit
-returns-in-Unfit c =
-    let t = (goal.at.returns-in-Unfit c).After-build in
-    λ reduced. absurd ((rw c.in-Unfit.is at c.build.ensures).0 (list_fits _ _ _ _ _ reduced c.requires (front t)))
+pub returns-in-Err : goal.returns-in-Err
+returns-in-Err c =
+    let t = (goal.at.returns-in-Err c).After-build in
+    λ reduced. absurd ((rw c.in-Err.is at c.build.ensures).0 (list_fits _ _ _ _ _ reduced c.requires (front t)))
 
-pub returns-in-Nodes : goal.returns-in-Nodes
-returns-in-Nodes c =
-    let t = (goal.at.returns-in-Nodes c).After-build in
+pub returns-in-Ok : goal.returns-in-Ok
+returns-in-Ok c =
+    let t = (goal.at.returns-in-Ok c).After-build in
     let a = c.args in
     let k = length a.list_ends.now in
     let nodes = c.build.new.wholes in
@@ -64,8 +64,8 @@ returns-in-Nodes c =
       refl,
       record {
         built =
-            subst (λ (wholes : List ℕ). BuildsTree a.list_letters.now a.list_ends.now (given t) (grown t wholes) c.in-Nodes.count)
-            (sym (take_at nodes behind k all)) (tree t c.in-Nodes.is);
+            subst (λ (wholes : List ℕ). BuildsTree a.list_letters.now a.list_ends.now (given t) (grown t wholes) c.in-Ok.count)
+            (sym (take_at nodes behind k all)) (tree t c.in-Ok.is);
         wholes_kept = drop_at nodes behind k all;
       },
     )

@@ -1,39 +1,37 @@
 -- The list is reduced, which says what question 11 does. Assumes nothing.
 use mathlib.Core.Path.{refl, sym, subst}
-use mathlib.Core.List.{List, [], ◌∷◌}
+use mathlib.Core.List.{[], ◌∷◌}
 use lib.ListN.{length}
-use Rattle.words.specs.Word.{Word, nf}
+use Rattle.words.specs.Word.{nf}
 use Rattle.words.specs.Bytes.{word}
-use Rattle.refusals.specs.Questions.{question12}
-use Rattle.refusals.specs.declared.Asked.{Asked}
+use Rattle.refusals.specs.Questions.{Asked, question12}
 use Rattle.refusals.proofs.Asking.{first_no_one}
 use Rattle.products.specs.Product.{generators}
 use Rattle.lists.specs.Questions.{question11}
-use Rattle.lists.specs.Reducing.{Checked}
 use Rattle.lists.proofs.Passing.{list_alone}
 use Rattle.lists.proofs.ReducedList.{list_too_long, list_short}
 use Rattle.quick.specs.Calls.{AnsweredBy}
 use Rattle.quick.proofs.ByQuestions.{first_refuses, first_passes}
-use Rattle.quick.proofs.deciding.answer_checked.Goals.{Start}
+use Rattle.std.proofs.lemmas.Result.{err_from_is_err_and}
 use Rattle.quick.proofs.deciding.answer_checked.Goals as goal
 
-abbrev gens : Start → List Word
-gens s = generators s.args.bytes.now s.args.ends.now
+pub returns-in_err-reduce_list : goal.returns-in_err-reduce_list
+returns-in_err-reduce_list c =
+    let a = c.args in
+    let gens = generators a.bytes.now a.ends.now in
+    let target = word a.target.now in
+    let checked = list_alone a.bytes.now a.ends.now a.target.now c.requires in
+    let p = err_from_is_err_and c.from_residual.result c.from_residual.ensures.1 in
+    rw (p.1, p.2) (first_refuses gens target (question11 gens) (question12 (length (nf target)) ∷ [])
+    (list_too_long a.bytes.now a.ends.now _ _ _ _ _ c.reduce_list.ensures checked refl refl c.in_err-reduce_list.was))
 
-abbrev target : Start → Word
-target s = word s.args.target.now
-
-checked : (s : Start) → Checked s.args.bytes.now s.args.ends.now
-checked s = list_alone s.args.bytes.now s.args.ends.now s.args.target.now s.requires
-
-pub returns-in-Refused : goal.returns-in-Refused
-returns-in-Refused c =
-    first_refuses (gens (goal.at.returns-in-Refused c).Start) (target (goal.at.returns-in-Refused c).Start) (question11 (gens (goal.at.returns-in-Refused c).Start)) (question12 (length (nf (target (goal.at.returns-in-Refused c).Start))) ∷ [])
-    (list_too_long c.args.bytes.now c.args.ends.now _ _ _ _ _ c.reduce_list.ensures (checked (goal.at.returns-in-Refused c).Start) refl refl c.in-Refused.is)
-
-pub returns-in-Length : goal.returns-in-Length
-returns-in-Length c =
-    let twelve = question12 (length (nf (target (goal.at.returns-in-Length c).Start))) in
-    first_passes (gens (goal.at.returns-in-Length c).Start) (target (goal.at.returns-in-Length c).Start) (question11 (gens (goal.at.returns-in-Length c).Start)) (twelve ∷ []) c.answer_short.result
-    (list_short c.args.bytes.now c.args.ends.now _ _ _ _ _ c.reduce_list.ensures (checked (goal.at.returns-in-Length c).Start) refl refl c.in-Length.is)
-    (subst (λ (a : Asked). AnsweredBy a (gens (goal.at.returns-in-Length c).Start) (target (goal.at.returns-in-Length c).Start) c.answer_short.result) (sym (first_no_one twelve)) c.answer_short.ensures)
+pub returns : goal.returns
+returns c =
+    let a = c.args in
+    let gens = generators a.bytes.now a.ends.now in
+    let target = word a.target.now in
+    let checked = list_alone a.bytes.now a.ends.now a.target.now c.requires in
+    let twelve = question12 (length (nf target)) in
+    first_passes gens target (question11 gens) (twelve ∷ []) c.answer_short.result
+    (list_short a.bytes.now a.ends.now _ _ _ _ _ c.reduce_list.ensures checked refl refl c.in_ok-reduce_list.was)
+    (subst (λ (a : Asked). AnsweredBy a gens target c.answer_short.result) (sym (first_no_one twelve)) c.answer_short.ensures)

@@ -4,4 +4,4 @@ use Rattle.quick.proofs.table.last_letter_of.Goals as goal
 
 pub returns : goal.returns
 unfolding last_letters
-returns c = c.wide.ensures
+returns c = c.from.ensures

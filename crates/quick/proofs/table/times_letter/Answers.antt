@@ -11,4 +11,4 @@ unfolding products
 returns c =
     let a = c.args in
     let p = c.requires in
-    ap (λ (i : ℕ). get_or products (2 * i + a.column) 0) c.wide.ensures ∙ products_at a.k a.column p.k_bound p.column_bound
+    ap (λ (i : ℕ). get_or products (2 * i + a.column) 0) c.from.ensures ∙ products_at a.k a.column p.k_bound p.column_bound

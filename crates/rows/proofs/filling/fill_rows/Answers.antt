@@ -1,51 +1,32 @@
--- Before turn i row 0 and i rows behind it are made, and the buffer has its length still. Assumes nothing.
-use mathlib.Core.Path.{◌≡◌, refl, ◌∙◌}
-use lib.ListN.{length}
-use Rattle.rows.proofs.MadeRows.{path_rows, filling_begins, filling_more, filling_rest, row_fits}
+-- Before turn i row 0 and i rows behind it are made. Assumes nothing.
+use Rattle.std.proofs.Common.{◌≡◌, ◌++◌, ◌∙◌, length, drop, arith}
+use Rattle.trees.specs.Tree.{at}
+use Rattle.rows.specs.Rounds.{Rewritten}
+use Rattle.rows.proofs.MadeRows.{path_rows, filling_more, filling_rest}
 use Rattle.rows.proofs.Parts.{row_inside}
-use native.Mathlib.Omega.{arith}
+use Rattle.rows.proofs.Rewriting.{rewritten_front}
+use Rattle.rows.proofs.filling.fill_rows.Goals.{After-copy_from_slice}
 use Rattle.rows.proofs.filling.fill_rows.Goals as goal
 
-pub copy_row-requires : goal.copy_row-requires
-copy_row-requires c =
+-- row 0 is the table's
+copied : (c : After-copy_from_slice) → Rewritten (at c.args.table.now) c.args.rows.now
+    (c.copy_from_slice.new.self ++ drop c.args.tree.now.count c.args.rows.now) c.args.tree.now.count
+copied c =
+    let a = c.args in
     let p = c.requires in
-    record {
-      count_in_bounds = omega (arith, row_inside 0 _ p.room.some, p.table_low.room);
-      count_in_bounds_2 = omega (arith, p.room.rows);
-    }
-
-pub loop-i-init : goal.loop-i-init
-loop-i-init c =
-    (omega arith, refl, filling_begins c.requires c.copy_row.ensures)
-
-pub read_letter-requires : goal.read_letter-requires
-read_letter-requires c =
-    let p = c.requires in
-    let r = c.copy_row.ensures in
-    let l = c.loop-i.invariant in
-    let here = c.loop-i-test.true in
-    record {
-      row_fits = row_fits p r l.2 here p.by_r;
-      row_fits_2 = row_fits p r l.2 here p.by_s;
-      count_in_bounds = omega (arith, p.room.few, l.1);
-    }
+    rewritten_front a.table.now a.rows.now c.copy_from_slice.new.self a.tree.now.count (omega (arith, row_inside 0 _ p.room.some, p.table_low.room))
+    (omega (arith, p.room.rows)) c.copy_from_slice.ensures.after
 
 pub loop-i-preserved : goal.loop-i-preserved
-loop-i-preserved c =
-    let l = c.loop-i.invariant in
-    let r = c.read_letter.ensures in
-    (omega arith, r.rewritten.long ∙ l.1, filling_more c.requires l.2 r.next_row)
-
-pub shape_of-rows : goal.shape_of-rows
-shape_of-rows c = c.loop-i.invariant.2.long ∙ c.copy_row.ensures.long
+loop-i-preserved c = filling_more c.requires c.loop-i.invariant c.read_letter.ensures.next_row
 
 pub returns : goal.returns
 returns c =
     let l = c.loop-i in
     let all : l.i ≡ length c.args.target.now = omega arith in
-    let row = c.copy_row.ensures in
+    let row = copied (goal.at.returns c).After-copy_from_slice in
     record {
-      right = rw (← all) (path_rows l.invariant.2);
-      long = l.invariant.2.long ∙ row.long;
-      kept = rw (← all) (filling_rest c.requires row l.invariant.2);
+      right = rw (← all) (path_rows l.invariant);
+      long = l.invariant.long ∙ row.long;
+      kept = rw (← all) (filling_rest c.requires row l.invariant);
     }

@@ -4,7 +4,7 @@ use Rattle.tables.proofs.Closed.{Swept}
 use Rattle.tables.proofs.closing.close_pairs.Given as goal
 
 abbrev pub invariant-loop-table : goal.invariant-loop-table
-invariant-loop-table l = Swept l.count l.letters l.rests l.wholes l.table
+invariant-loop-table l = Swept l.tree.count l.tree.letters.now l.tree.rests.now l.tree.wholes.now l.table
 
 abbrev pub decreases-loop-table : goal.decreases-loop-table
 decreases-loop-table l = total l.table

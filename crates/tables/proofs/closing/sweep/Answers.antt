@@ -1,10 +1,10 @@
 -- The places before the pair are used. Those that `seek` passes over are not fresh. Assumes nothing.
-use mathlib.Core.Path.{◌≡◌, refl, sym, subst, ◌∙◌}
-use Prim.Native.Nat.{ℕ, ◌*◌, ◌≤◌, ◌<◌}
+use mathlib.Core.Path.{◌≡◌, refl, subst}
+use Prim.Native.Nat.{ℕ, ◌*◌, ◌<◌}
 use Rattle.tables.specs.Rules.{place, Rule}
 use Rattle.tables.specs.Levelling.{Passes, begin}
 use Rattle.tables.specs.Closing.{Used, skipped}
-use Rattle.tables.proofs.Places.{place_inside, place_past, next_stands}
+use Rattle.tables.proofs.Places.{place_inside, next_stands}
 use Rattle.tables.proofs.Visiting.{passes_ready, passes_next}
 use Rattle.tables.proofs.Using.{used_bounded}
 use native.Mathlib.Omega.{arith}
@@ -13,8 +13,8 @@ use Rattle.tables.proofs.closing.sweep.Goals as goal
 pub loop-pair-init : goal.loop-pair-init
 loop-pair-init c =
     let a = c.args in
-    let first : 0 ≡ place a.count 0 0 = omega arith in
-    let rules = Rule a.count a.letters.now a.rests.now in
+    let first : 0 ≡ place a.tree.now.count 0 0 = omega arith in
+    let rules = Rule a.tree.now.count a.tree.now.letters.now a.tree.now.rests.now in
     (c.requires.le_count, omega arith, subst (λ (z : ℕ). Passes (Used rules) z a.table.now a.table.now) first begin)
 
 pub seek-y-requires : goal.seek-y-requires
@@ -35,14 +35,9 @@ use_pair-requires c =
       y_lt_count = omega (arith, c.seek-y.ensures.inside, p.le_count);
     }
 
-pub next_pair-pair-requires : goal.next_pair-pair-requires
-next_pair-pair-requires c =
-    let p = c.requires in
-    (omega (arith, c.loop-pair-test.true, p.ready.few), omega (arith, c.seek-y.ensures.inside, p.ready.few, p.le_count))
-
 pub loop-pair-smaller : goal.loop-pair-smaller
 loop-pair-smaller c =
-    let count = c.args.count in
+    let count = c.args.tree.now.count in
     let l = c.loop-pair in
     let sought = c.seek-y.ensures in
     let inside : place count l.pair.row l.pair.column < count * count = place_inside c.loop-pair-test.true l.invariant.0 in
@@ -51,7 +46,7 @@ loop-pair-smaller c =
 
 pub loop-pair-preserved : goal.loop-pair-preserved
 loop-pair-preserved c =
-    let count = c.args.count in
+    let count = c.args.tree.now.count in
     let l = c.loop-pair in
     let x = l.pair.row in
     let y = c.seek-y.result in
@@ -65,16 +60,3 @@ loop-pair-preserved c =
       passes_next count x y next.result.row next.result.column column next.ensures sought.behind
           (λ m behind inside. skipped (λ fresh. sought.without m inside behind (omega arith) (omega arith)) refl) c.use_pair.ensures l.invariant.2,
     )
-
-pub shape_of-table : goal.shape_of-table
-shape_of-table c =
-    let ready = c.requires.ready in
-    (passes_ready used_bounded ready c.loop-pair.invariant.2).bounded.long ∙ sym ready.bounded.long
-
-pub returns : goal.returns
-returns c =
-    let a = c.args in
-    let l = c.loop-pair in
-    let past : a.count * a.count ≤ place a.count l.pair.row l.pair.column = place_past l.pair.column c.loop-pair-test.false in
-    let end : place a.count l.pair.row l.pair.column ≡ a.count * a.count = omega (arith, l.invariant.1) in
-    subst (λ (z : ℕ). Passes (Used (Rule a.count a.letters.now a.rests.now)) z a.table.now l.table) end l.invariant.2

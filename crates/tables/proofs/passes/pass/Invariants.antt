@@ -7,8 +7,8 @@ use Rattle.tables.proofs.passes.pass.Given as goal
 
 abbrev pub invariant-loop-pair : goal.invariant-loop-pair
 invariant-loop-pair l =
-    (l.pair.column < l.count) × (place l.count l.pair.row l.pair.column ≤ l.count * l.count)
-    × Passes (Visited (Rule l.count l.letters l.rests) l.k.0) (place l.count l.pair.row l.pair.column) l.initial.table l.table
+    (l.pair.column < l.tree.count) × (place l.tree.count l.pair.row l.pair.column ≤ l.tree.count * l.tree.count)
+    × Passes (Visited (Rule l.tree.count l.tree.letters.now l.tree.rests.now) l.k.0) (place l.tree.count l.pair.row l.pair.column) l.initial.table l.table
 
 abbrev pub decreases-loop-pair : goal.decreases-loop-pair
-decreases-loop-pair l = l.count * l.count - place l.count l.pair.row l.pair.column
+decreases-loop-pair l = l.tree.count * l.tree.count - place l.tree.count l.pair.row l.pair.column

@@ -1,7 +1,6 @@
 -- After some turns the first i rows are relaxed, and at most one is left. Assumes nothing.
-use mathlib.Core.Path.{◌∙◌}
 use Prim.Native.Nat.{◌+◌}
-use Rattle.levels.proofs.Relaxing.{relaxed_begins, relaxed_turn, lowers_length}
+use Rattle.levels.proofs.Relaxing.{relaxed_begins, relaxed_turn}
 use Rattle.tables.specs.Relaxing.{ColumnTurn}
 use Rattle.tables.proofs.Steps.{ready_relaxed, relaxed_all}
 use native.Mathlib.Omega.{arith}
@@ -9,9 +8,6 @@ use Rattle.tables.proofs.rules.relax_column.Goals as goal
 
 pub loop-i-init : goal.loop-i-init
 loop-i-init c = (omega arith, relaxed_begins)
-
-pub overflow_add-i : goal.overflow_add-i
-overflow_add-i c = omega (arith, c.requires.ready.few)
 
 pub relax_in_column-requires : goal.relax_in_column-requires
 relax_in_column-requires c =
@@ -48,21 +44,9 @@ relax_in_column-requires-then-i-count c =
       i_lt_count = omega arith;
     }
 
-pub shape_of-table-then-i-count : goal.shape_of-table-then-i-count
-shape_of-table-then-i-count c =
-    lowers_length c.relax_in_column-then-i-count.ensures.lowers ∙ lowers_length c.loop-i.invariant.1.lowers
-
 pub returns-then-i-count : goal.returns-then-i-count
 returns-then-i-count c =
     let a = c.args in
     let turn = ColumnTurn a.count a.x a.y in
     let i = c.loop-i.i in
     relaxed_all turn (i + 1) a.count (omega arith) (relaxed_turn {Y = turn} c.loop-i.invariant.1 c.relax_in_column-then-i-count.ensures)
-
-pub shape_of-table : goal.shape_of-table
-shape_of-table c = lowers_length c.loop-i.invariant.1.lowers
-
-pub returns : goal.returns
-returns c =
-    let a = c.args in
-    relaxed_all (ColumnTurn a.count a.x a.y) c.loop-i.i a.count (omega arith) c.loop-i.invariant.1

@@ -1,6 +1,5 @@
 -- First the row, then the column. Where x and y are one node, each entry would be lowered to more than itself. Assumes nothing.
-use Rattle.levels.proofs.Relaxing.{relaxed_then, lowers_length}
-use mathlib.Core.Path.{◌∙◌}
+use Rattle.levels.proofs.Relaxing.{relaxed_then}
 use Rattle.tables.proofs.Steps.{ready_relaxed, one_node_relaxed}
 use native.Mathlib.Omega.{arith}
 use Rattle.tables.proofs.rules.relax_f.Goals as goal
@@ -15,10 +14,6 @@ relax_column-requires c =
       x_lt_count = omega (arith, p.x_lt_count, p.y_lt_count);
       y_lt_count = omega (arith, p.x_lt_count, p.y_lt_count);
     }
-
-pub shape_of-table : goal.shape_of-table
-shape_of-table c =
-    lowers_length c.relax_column.ensures.lowers ∙ lowers_length c.relax_row.ensures.lowers
 
 pub returns : goal.returns
 returns c =

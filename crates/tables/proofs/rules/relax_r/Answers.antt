@@ -1,44 +1,27 @@
 -- The child of x by R, with what is left of y without R and with the child of y by R. Assumes nothing.
-use Rattle.levels.proofs.Relaxing.{relaxed_then, lowers_length}
-use mathlib.Core.Path.{◌∙◌}
+use Rattle.std.proofs.Common.{Some, None, arith}
+use Rattle.levels.proofs.Relaxing.{relaxed_then}
 use Rattle.tables.specs.Relaxing.{One}
-use Rattle.tables.proofs.Finding.{not_found, none_joined, child_front, joined}
 use Rattle.tables.proofs.Steps.{ready_relaxed}
+use Rattle.tables.proofs.Finding.{not_found, none_joined, child_found, child_node, joined}
 use Rattle.tables.proofs.rules.relax_r.Goals as goal
 
-pub child-a-requires : goal.child-a-requires
-child-a-requires c =
-    c.requires.linked_by.followed.room_children
-
-pub returns-then-count-a : goal.returns-then-count-a
-returns-then-count-a c =
-    let none = not_found (child_front c.requires.linked_by c.child-a.ensures) c.if-count-a.true in
+pub returns-in_default : goal.returns-in_default
+returns-in_default c =
+    let none = not_found (child_found None c.requires.linked_by c.requires.x_lt_count c.in_default.ensures) (omega arith) in
     relaxed_then (none_joined none) (none_joined none)
 
-pub rest_after-requires : goal.rest_after-requires
-rest_after-requires c =
-    let linked = c.requires.linked_by in record { count_in_bounds = linked.followed.room_letters; count_in_bounds_2 = linked.followed.room_rests }
+pub relax_at-requires-2-clause-ready : goal.relax_at-requires-2-clause-ready
+relax_at-requires-2-clause-ready c = ready_relaxed c.requires.ready c.relax_at.ensures
 
-pub relax_at-requires : goal.relax_at-requires
-relax_at-requires c = c.requires.ready
-
-pub child-requires : goal.child-requires
-child-requires c = c.requires.linked_by.followed.room_children
-
-pub relax_at-requires-2 : goal.relax_at-requires-2
-relax_at-requires-2 c =
-    ready_relaxed c.requires.ready c.relax_at.ensures
-
-pub shape_of-table : goal.shape_of-table
-shape_of-table c =
-    lowers_length c.relax_at-2.ensures.lowers ∙ lowers_length c.relax_at.ensures.lowers
+pub relax_at-requires-2-clause-b_node : goal.relax_at-requires-2-clause-b_node
+relax_at-requires-2-clause-b_node c = child_node _ c.requires.linked_by c.requires.y_lt_count c.child-2.ensures
 
 pub returns : goal.returns
 returns c =
-    let count = c.args.count in
-    let linked = c.requires.linked_by in
-    let front = child_front linked c.child-a.ensures in
-    let front-y = child_front linked c.child.ensures in
+    let p = c.requires in
+    let count = c.args.tree.now.count in
+    let front = child_found (Some c.in-Some.a) p.linked_by p.x_lt_count c.in-Some.ensures in
     relaxed_then
-    (joined {Y = One count} front c.rest_after.ensures c.relax_at.ensures)
-    (joined {Y = One count} front front-y c.relax_at-2.ensures)
+    (joined {Y = One count} front c.rest_after.ensures.front c.relax_at.ensures)
+    (joined {Y = One count} front (child_found _ p.linked_by p.y_lt_count c.child-2.ensures) c.relax_at-2.ensures)

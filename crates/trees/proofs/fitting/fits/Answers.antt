@@ -1,24 +1,25 @@
 -- Each answer is by the tests on the way. Assumes nothing.
-use lib.ListN.{length}
+use Rattle.std.proofs.Common.{length}
 use Rattle.refusals.proofs.Telling.{tells_same}
 use Rattle.trees.proofs.Ends.{ends_rise, fits_ends}
 use Rattle.trees.proofs.fitting.fits.Goals as goal
 
-pub returns : goal.returns
-returns c =
+pub returns-then-wholes-ends : goal.returns-then-wholes-ends
+returns-then-wholes-ends c =
     let a = c.args in
+    let room = c.if-wholes-ends.true in
     tells_same
     c.ends_fit.result
     (λ fit.
     record {
-      few = c.if-bytes-ge-MOST.false;
+      few = room.0;
       rising = ends_rise a.ends.now (length a.bytes.now) fit;
       within = λ j h. (fit j h).within;
-      room_letters = c.if-letters-bytes.false;
-      room_rests = c.if-rests-bytes.false;
-      room_r = c.if-children_r-bytes.false;
-      room_s = c.if-children_s-bytes.false;
-      room_wholes = c.if-wholes-ends.false;
+      room_letters = room.1;
+      room_rests = room.2;
+      room_r = room.3;
+      room_s = room.4;
+      room_wholes = room.5;
     })
     (λ f. fits_ends f)
     c.ends_fit.ensures

@@ -1,7 +1,5 @@
 -- The bytes from the end down to i are read. Assumes nothing.
-use mathlib.Core.Path.{◌≡◌}
-use Prim.Native.Nat.{◌-◌, ◌≤◌}
-use lib.ListN.{length}
+use Rattle.std.proofs.Common.{◌≤◌}
 use Rattle.trees.specs.Growing.{node_slices}
 use Rattle.trees.proofs.Growth.{ReadTo}
 use Rattle.trees.proofs.growing.read_backwards.Given as goal
@@ -9,13 +7,5 @@ use Rattle.trees.proofs.growing.read_backwards.Given as goal
 abbrev pub invariant-loop-i : goal.invariant-loop-i
 invariant-loop-i l =
     (l.from ≤ l.i)
-    × (l.i ≤ l.end)
-    × (length l.letters ≡ length l.initial.letters)
-    × (length l.rests ≡ length l.initial.rests)
-    × (length l.children_r ≡ length l.initial.children_r)
-    × (length l.children_s ≡ length l.initial.children_s)
     × ReadTo l.bytes l.end l.count (node_slices l.initial.letters l.initial.rests l.initial.children_r l.initial.children_s) l.i (node_slices l.letters l.rests l.children_r l.children_s)
     l.place.node l.place.count
-
-abbrev pub decreases-loop-i : goal.decreases-loop-i
-decreases-loop-i l = l.i - l.from

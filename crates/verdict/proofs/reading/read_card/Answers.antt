@@ -12,6 +12,6 @@ take-split a b old new h front =
 
 pub loop-used-preserved : goal.loop-used-preserved
 loop-used-preserved g c =
-    let more : c.loop-used.used ≤ c.in-On.more = omega (arith, c.in-On.ensures.turns.0) in
-    let joined = take-split c.loop-used.used c.in-On.more c.loop-used.card c.take_turn.new.card more c.in-On.ensures.card_unchanged in
-    (search rules, search rules, subst (Consumes _ _) joined (Consumes-trans _ _ _ _ _ c.loop-used.invariant.2 c.in-On.ensures.adds))
+    let more : c.loop-used.used ≤ c.in-Continue.more = omega (arith, c.in-Continue.ensures.turns.0) in
+    let joined = take-split c.loop-used.used c.in-Continue.more c.loop-used.card c.take_turn.new.card more c.in-Continue.ensures.card_unchanged in
+    (search rules, search rules, subst (Consumes _ _) joined (Consumes-trans _ _ _ _ _ c.loop-used.invariant.2 c.in-Continue.ensures.adds))

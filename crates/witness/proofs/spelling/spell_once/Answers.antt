@@ -1,31 +1,37 @@
 -- The item on top is a factor or not. Assumes nothing.
-use mathlib.Core.Path.{sym, ◌∙◌}
+use mathlib.Core.Path.{◌≡◌, ap, subst, ◌∙◌}
+use mathlib.Core.List.{List, ◌∷◌}
+use Prim.Native.Nat.{ℕ}
+use Rattle.derivations.specs.Ways.{world_of}
+use Rattle.witness.specs.Choices.{choice_at}
+use Rattle.witness.specs.Spelling.{Halfway}
 use Rattle.witness.proofs.Halfway.{factor_room, further_factor, further_apart}
-use native.Mathlib.Omega.{arith}
+use Rattle.witness.proofs.spelling.spell_once.Goals.{Then-x-eq0}
 use Rattle.witness.proofs.spelling.spell_once.Goals as goal
 
-pub write_factor-requires : goal.write_factor-requires
-write_factor-requires c =
-    let p = c.requires in
-    let is-factor = sym c.entry.ensures.0 ∙ c.if-entry-eq0.true in
-    factor_room _ _ _ _ _ _ _ _ p.height_nonzero is-factor c.entry-then-entry-eq0.ensures.0 p.by_index.2 p.small
+-- a factor was on top
+on_top : (c : Then-x-eq0) → c.args.stack.now ≡ (0, c.pop-x.result.1) ∷ c.pop-x.new.self
+on_top c = c.pop-x.ensures ∙ ap (λ (a : ℕ). (a, c.pop-x.result.1) ∷ c.pop-x.new.self) c.if-x-eq0.true
 
-pub returns-then-entry-eq0 : goal.returns-then-entry-eq0
-returns-then-entry-eq0 c =
-    let p = c.requires in
-    let is-factor = sym c.entry.ensures.0 ∙ c.if-entry-eq0.true in
-    further_factor _ _ _ _ _ _ _ _ p.height_nonzero is-factor c.entry-then-entry-eq0.ensures.0 p.by_index.2.standing
-    c.write_factor.ensures.0 c.write_factor.ensures.1
+halfway : (c : Then-x-eq0)
+    → let a = c.args in
+    let by = c.requires.by_index in
+    Halfway (world_of a.setting.now) (choice_at a.setting.now.tree.count a.choices.now) by.0 by.1
+    ((0, c.pop-x.result.1) ∷ c.pop-x.new.self) a.witness.now a.written
+halfway c =
+    let a = c.args in
+    let by = c.requires.by_index in
+    subst
+    (λ (is : List (ℕ × ℕ)). Halfway (world_of a.setting.now) (choice_at a.setting.now.tree.count a.choices.now) by.0 by.1 is a.witness.now a.written)
+    (on_top c) by.2
 
-pub take_apart-requires : goal.take_apart-requires
-take_apart-requires c =
-    let p = c.requires in
-    record {
-      small = p.small;
-      all_settled = p.all_settled;
-      standing = p.by_index.2.standing;
-      height_nonzero = (p.height_nonzero, omega (arith, c.entry.ensures.0, c.if-entry-eq0.false));
-    }
+pub bounds-witness-written : goal.bounds-witness-written
+bounds-witness-written c = (factor_room _ _ _ _ _ _ (halfway (goal.at.bounds-witness-written c).Then-x-eq0) c.requires.small).0
+
+pub returns-then-x-eq0 : goal.returns-then-x-eq0
+returns-then-x-eq0 c =
+    let here = (goal.at.returns-then-x-eq0 c).Then-x-eq0 in
+    rw (on_top here) (further_factor _ _ _ _ _ _ (halfway here).standing)
 
 pub returns : goal.returns
-returns c = further_apart _ _ c.take_apart.ensures
+returns c = rw c.pop-x.ensures (further_apart _ _ c.take_apart.ensures)

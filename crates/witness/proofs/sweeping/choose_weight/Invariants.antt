@@ -2,20 +2,15 @@
 use mathlib.Core.Bool.{true}
 use mathlib.Core.Path.{◌≡◌}
 use Prim.Native.Nat.{◌-◌, ◌≤◌}
-use lib.ListN.{length}
-use Rattle.derivations.specs.Ways.{world, highest}
+use Rattle.derivations.specs.Ways.{world_of, highest}
 use Rattle.witness.specs.Sweeping.{swept, ChoosesTo}
 use Rattle.witness.proofs.sweeping.choose_weight.Given as goal
 
 abbrev pub invariant-loop-from : goal.invariant-loop-from
 invariant-loop-from l =
-    ((l.from ≤ l.end) × (l.end ≡ swept (world l.count l.letters l.rests l.children_r l.children_s l.wholes l.target l.counts)))
-    × ((1 ≤ l.x) × (l.x ≤ highest (world l.count l.letters l.rests l.children_r l.children_s l.wholes l.target l.counts)))
-    × ChoosesTo (world l.count l.letters l.rests l.children_r l.children_s l.wholes l.target l.counts) l.k.0 l.k.0 l.from l.initial.choices true l.choices
-    × (length l.xs ≡ length l.initial.xs)
-    × (length l.ys ≡ length l.initial.ys)
-    × (length l.us ≡ length l.initial.us)
-    × (length l.vs ≡ length l.initial.vs)
+    ((l.from ≤ l.end) × (l.end ≡ swept (world_of l.setting)))
+    × ((1 ≤ l.x) × (l.x ≤ highest (world_of l.setting)))
+    × ChoosesTo (world_of l.setting) l.k.0 l.k.0 l.from l.initial.choices true l.choices
 
 abbrev pub decreases-loop-from : goal.decreases-loop-from
 decreases-loop-from l = l.end - l.from

@@ -1,45 +1,34 @@
--- One arm for each letter and each ending that it meets. Assumes nothing.
+-- A letter that goes finds on the stack the letters that go with it: an R that meets an R finds one, and an S that meets SS two. Assumes nothing.
+use mathlib.Core.Path.{◌≡◌, refl}
+use Prim.Native.Nat.{ℕ}
 use native.Mathlib.Omega.{arith}
-use mathlib.Core.Path.{◌≡◌}
-use mathlib.Core.List.{[]}
-use Prim.Native.Nat.{◌≤◌}
-use Rattle.words.proofs.Stack.{r_cancels, r_stays, s_doubles, s_cancels, s_begins, ending_3, height_r, height_ss}
-use Rattle.words.proofs.arrival.arrive.Goals.{After-struct_known-in-1-1, After-struct_known-in_default-ending-2-1}
+use denote.Enum.Declared.{tag_of}
+use Rattle.words.specs.contracts.Ending.{the_type}
+use Rattle.words.specs.declared.Ending.{Ending}
+use Rattle.words.specs.declared.Ending.TheVariants.{Nothing, R, S, SS}
+use Rattle.words.proofs.Stack.{r_cancels, s_cancels, height_r, height_ss}
 use Rattle.words.proofs.arrival.arrive.Goals as goal
 
--- an R that meets an R finds a letter on the stack, and an S that meets SS two
-meets-r : (c : After-struct_known-in-1-1) → 1 ≤ c.args.top.len
-meets-r c =
-    height_r _ _ _ c.requires.some_held c.in-1.is
+-- an ending by its number
+by_1 : (e : Ending) → tag_of the_type e ≡ 1 → e ≡ R
+by_1 Nothing h = absurd (omega (arith, h))
+by_1 R h = refl
+by_1 S h = absurd (omega (arith, h))
+by_1 SS h = absurd (omega (arith, h))
 
-ends-in-ss : (c : After-struct_known-in_default-ending-2-1) → c.args.top.ending ≡ 3
-ends-in-ss c =
-    let other = c.in_default-ending.in_default-ending-own.rest in
-    ending_3 _ _ _ c.requires.some_held other.0.0.1 other.0.1 other.1
-
-meets-ss : (c : After-struct_known-in_default-ending-2-1) → 2 ≤ c.args.top.len
-meets-ss c = height_ss _ _ _ c.requires.some_held (ends-in-ss c)
-
-pub returns-in-0 : goal.returns-in-0
-returns-in-0 c = r_stays _ _ _ _ _ c.if-byte-eq82.true (λ one. omega (arith, c.in-0.is)) (omega arith) (c.push.ensures.len_value, c.push.ensures.stack_after)
+by_no_other : (e : Ending) → (tag_of the_type e ≡ 0 → ⊥) → (tag_of the_type e ≡ 1 → ⊥) → (tag_of the_type e ≡ 2 → ⊥) → e ≡ SS
+by_no_other Nothing h i j = absurd (h refl)
+by_no_other R h i j = absurd (i refl)
+by_no_other S h i j = absurd (j refl)
+by_no_other SS h i j = refl
 
 pub returns-in-1 : goal.returns-in-1
-returns-in-1 c = r_cancels _ _ _ [] _ c.if-byte-eq82.true c.in-1.is (meets-r c.before) c.pop_to.ensures
+returns-in-1 c =
+    let e = by_1 c.args.top.ending c.in-1.is in
+    r_cancels _ _ _ _ c.in-82.is e (height_r _ _ _ c.requires.some_held e) c.pop_to.ensures
 
-pub returns-in-2 : goal.returns-in-2
-returns-in-2 c = r_stays _ _ _ _ _ c.if-byte-eq82.true (λ one. omega (arith, c.in-2.is)) (omega arith) (c.push-in-2.ensures.len_value, c.push-in-2.ensures.stack_after)
-
-pub returns-in_default : goal.returns-in_default
-returns-in_default c = r_stays _ _ _ _ _ c.if-byte-eq82.true c.in_default.in_default-own.rest.0.1 (omega arith) (c.push-in_default.ensures.len_value, c.push-in_default.ensures.stack_after)
-
-pub returns-in-0-ending : goal.returns-in-0-ending
-returns-in-0-ending c = s_begins _ _ _ _ _ c.if-byte-eq82.false (omega (arith, c.in-0-ending.is)) (omega arith) (c.push-in-0-ending.ensures.len_value, c.push-in-0-ending.ensures.stack_after)
-
-pub returns-in-1-ending : goal.returns-in-1-ending
-returns-in-1-ending c = s_begins _ _ _ _ _ c.if-byte-eq82.false (omega (arith, c.in-1-ending.is)) (omega arith) (c.push-in-1-ending.ensures.len_value, c.push-in-1-ending.ensures.stack_after)
-
-pub returns-in-2-ending : goal.returns-in-2-ending
-returns-in-2-ending c = s_doubles _ _ _ _ _ c.if-byte-eq82.false c.in-2-ending.is (omega arith) (c.push-in-2-ending.ensures.len_value, c.push-in-2-ending.ensures.stack_after)
-
-pub returns-in_default-ending : goal.returns-in_default-ending
-returns-in_default-ending c = s_cancels _ _ _ [] _ c.if-byte-eq82.false (ends-in-ss c.before) (meets-ss c.before) c.pop_to-in_default-ending.ensures
+pub returns-in_default-ending-2 : goal.returns-in_default-ending-2
+returns-in_default-ending-2 c =
+    let not_r : c.args.byte ≡ 82 → ⊥ = λ h. omega arith in
+    let e = by_no_other c.args.top.ending (λ h. omega (arith, h)) (λ h. omega (arith, h)) (λ h. omega (arith, h)) in
+    s_cancels _ _ _ _ not_r e (height_ss _ _ _ c.requires.some_held e) c.pop_to-in_default-ending-2.ensures

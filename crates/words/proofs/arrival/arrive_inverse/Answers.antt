@@ -1,53 +1,44 @@
--- The letters of the inverse of a word arrive. What is still to come is the inverse of the word's first i letters.
+-- The letters of the inverse of a word arrive. What is still to come is the inverse of the letters that the walk back has left.
 -- Assumes nothing.
-use mathlib.Core.Path.{◌≡◌, refl, sym, ap, subst}
-use mathlib.Core.List.{List}
-use Prim.Native.Nat.{ℕ, ◌-◌}
-use lib.ListN.{take, get_or}
-use lib.Seq.{take-length}
+use Rattle.std.proofs.Common.{◌≡◌, List, ℕ, [], ◌∷◌, arith, refl, ap, length, length-append}
+use Rattle.std.proofs.lemmas.List.{nil_from_length}
 use Rattle.words.specs.Word.{inverse, inverse_letter}
 use Rattle.words.specs.Bytes.{letter, word as word_of}
 use Rattle.words.proofs.Inverse.{length_inverse_letter}
-use Rattle.words.proofs.Arriving.{Arriving, arriving_some, arriving_begins, arriving_more, arriving_ends, rest_of_inverse}
-use borrow.Author.Rules.{rules}
-use native.Mathlib.Omega.{arith}
-use Rattle.words.proofs.arrival.arrive_inverse.Invariants.{decreases-loop-i, invariant-loop-i}
+use Rattle.words.proofs.Arriving.{arriving_some, arriving_begins, arriving_more, arriving_ends, rest_of_inverse}
 use Rattle.words.proofs.arrival.arrive_inverse.Goals as goal
 
-pub loop-i-init : goal.loop-i-init
-loop-i-init c =
-    let a = c.args in
-    let w = a.word.now in
-    (omega arith, refl, omega arith, subst (λ (l : List ℕ). Arriving a.stack.now (record { len = 0; ending = 0; pairs = 0; triples = 0 }) (inverse (word_of l)) (inverse (word_of w))) (sym (take-length w)) (arriving_begins a.stack.now (inverse (word_of w))))
-
-pub overflow_sub-i : goal.overflow_sub-i
-overflow_sub-i c = search rules
+pub loop-byte-init : goal.loop-byte-init
+loop-byte-init c =
+    let all : c.into_iter-byte-iterator.result.iter.rest.now ≡ c.args.word.now = cc in
+    rw all (record { steps = (tt, tt); stack_kept = refl; room = omega arith; arriving = arriving_begins c.args.stack.now (inverse (word_of c.args.word.now)) })
 
 pub arrive_inverse_letter-top-requires : goal.arrive_inverse_letter-top-requires
 arrive_inverse_letter-top-requires c =
-    let l = c.loop-i in
-    record { some_held = arriving_some l.stack l.top l.invariant.3; top_in_bounds = omega arith }
+    let l = c.loop-byte in
+    let before = c.next.new.self.iter.rest.now in
+    record {
+      some_held = arriving_some l.stack l.top l.invariant.arriving;
+      top_in_bounds = omega (arith, ap length c.in-Some.ensures.steps, length-append before (c.in-Some.byte.now ∷ []));
+    }
 
-pub loop-i-preserved : goal.loop-i-preserved
-loop-i-preserved c =
-    let l = c.loop-i in
-    let w = c.args.word.now in
-    let m = c.arrive_inverse_letter-top.ensures in (
-      omega arith,
-      omega (arith, c.arrive_inverse_letter-top.auto.stack),
-      omega (arith, m.letters, length_inverse_letter (letter (get_or w (l.i - 1) 0))),
-      arriving_more (inverse_letter (letter (get_or w (l.i - 1) 0))) (inverse (word_of (take (l.i - 1) w))) (rest_of_inverse w l.i (omega arith) (omega arith)) l.invariant.3 m,
-    )
-
-pub shape_of-stack : goal.shape_of-stack
-shape_of-stack c = c.loop-i.invariant.1
+pub loop-byte-preserved : goal.loop-byte-preserved
+loop-byte-preserved c =
+    let l = c.loop-byte in
+    let b = letter c.in-Some.byte.now in
+    let before = c.next.new.self.iter.rest.now in
+    let m = c.arrive_inverse_letter-top.ensures in
+    record {
+      steps = (tt, tt);
+      stack_kept = omega (arith, c.arrive_inverse_letter-top.auto.stack);
+      room = omega (arith, m.letters, length_inverse_letter b, ap length c.in-Some.ensures.steps, length-append before (c.in-Some.byte.now ∷ []));
+      arriving = arriving_more (inverse_letter b) (inverse (word_of before)) (rest_of_inverse _ before _ c.in-Some.ensures.steps) l.invariant.arriving m;
+    }
 
 pub returns : goal.returns
 returns c =
-    let l = c.loop-i in
-    let w = c.args.word.now in
-    let none : l.i ≡ 0 = omega arith in
+    let l = c.loop-byte in
     record {
-      held = arriving_ends (ap (λ (j : ℕ). inverse (word_of (take j w))) none) l.invariant.3;
+      held = arriving_ends (ap (λ (l : List ℕ). inverse (word_of l)) (nil_from_length _ c.in-None.ensures.steps.0)) l.invariant.arriving;
       len_bound = omega arith;
     }
