@@ -8,6 +8,7 @@ pub mod judging;
 
 ghost use Rattle.engine.specs.Calls.{Judges};
 
+use limits::{GENERATORS, LIST_STATES};
 use queries::room::Room;
 use words::{Factors, Refusal};
 
@@ -27,7 +28,7 @@ pub fn judge(
         (record { first = first.old; second = second.old; witness = witness.old })
         (record { first = first.new; second = second.new; witness = witness.new }) }
 {
-    let mut room = Room::new();
+    let mut room = Room::<LIST_STATES, GENERATORS>::new();
     let posed = room.pose(bytes, ends, target)?;
     let form = room.form(posed.t);
     let tree = room.tree(posed.count, ends.len());

@@ -1,10 +1,10 @@
 -- What is ready in arrays is so as they are shown: as a tree and a form. Assumes nothing.
 use mathlib.Core.Path.{◌≡◌, sym, subst}
 use mathlib.Core.List.{List}
-use Prim.Native.Nat.{ℕ, ◌+◌}
+use Prim.Native.Nat.{ℕ}
 use native.Mathlib.Omega.{arith}
 use lib.ListN.{length, take, length-replicate}
-use Rattle.limits.specs.Limits.{most_letters, most_signed_generators, most_of_signed_list}
+use Rattle.limits.specs.Limits.{most_letters, most_signed_generators, most_states}
 use Rattle.words.specs.Word.{Word}
 use Rattle.trees.specs.declared.SuffixTree.{SuffixTree}
 use Rattle.queries.specs.Arrays.{zeros}
@@ -20,10 +20,10 @@ pub shown_ready : (gens : List Word) (m count generators t : ℕ) (arrays : Lent
 shown_ready gens m count generators t arrays tree form nodes wholes shown ready =
     rw (nodes.0, nodes.1, nodes.2, nodes.3, nodes.4, wholes, shown) ready
 
--- there is room for every reduced list
-pub reduced_room : (letters ends : List ℕ) (arrays : Lent) → arrays ≡ zeros → ReducedList letters ends → HasRoom (length letters) (length ends) arrays
+-- there is room for every reduced list, also for one with its inverses behind it
+pub reduced_room : (letters ends : List ℕ) (arrays : Lent) → arrays ≡ zeros most_states most_signed_generators → ReducedList letters ends → HasRoom (length letters) (length ends) arrays
 reduced_room letters ends arrays e reduced =
-    let nodes = length-replicate {A = ℕ} (most_of_signed_list + 1) 0 in
+    let nodes = length-replicate {A = ℕ} most_states 0 in
     let short = reduced.short in
     let few = reduced.few in
     subst (HasRoom (length letters) (length ends)) (sym e)

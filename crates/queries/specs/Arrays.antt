@@ -1,10 +1,10 @@
 -- The arrays of a call's own as what is lent to be made ready. Assumes nothing: these are definitions.
-use Rattle.std.specs.Prelude.{◌+◌, replicate}
-use Rattle.limits.specs.Limits.{most_letters, most_signed_generators, most_of_signed_list}
+use Rattle.std.specs.Prelude.{ℕ, replicate}
+use Rattle.limits.specs.Limits.{most_letters}
 use Rattle.queries.specs.Posing.{Lent}
 use Rattle.queries.specs.declared.room.Room.{Room}
 
-abbrev pub lent_in : Room → Lent
+abbrev pub lent_in : {states generators : ℕ} → Room states generators → Lent
 lent_in room =
     record {
       form = room.form;
@@ -18,15 +18,15 @@ lent_in room =
     }
 
 -- before they are written
-abbrev pub zeros : Lent
-zeros =
+abbrev pub zeros : ℕ → ℕ → Lent
+zeros states generators =
     record {
       form = replicate most_letters 0;
       tree = record {
-        letters = replicate (most_of_signed_list + 1) 0;
-        rests = replicate (most_of_signed_list + 1) 0;
-        children_r = replicate (most_of_signed_list + 1) 0;
-        children_s = replicate (most_of_signed_list + 1) 0;
-        wholes = replicate most_signed_generators 0;
+        letters = replicate states 0;
+        rests = replicate states 0;
+        children_r = replicate states 0;
+        children_s = replicate states 0;
+        wholes = replicate generators 0;
       };
     }

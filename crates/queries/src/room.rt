@@ -1,42 +1,44 @@
 // Arrays of a call's own, in which a list and a target are made ready.
-ghost use Rattle.std.specs.Prelude.{◌≡◌, ◌≤◌, length, take, replicate};
-ghost use Rattle.limits.specs.Limits.{most_letters, most_signed_generators, most_of_signed_list};
+ghost use Rattle.std.specs.Prelude.{◌≡◌, ◌≤◌, ◌<◌, length, take};
+ghost use Rattle.limits.specs.Limits.{most_letters, most_generators, most_of_list};
 ghost use Rattle.queries.specs.Posing.{ByQuestions, PosesForms, of_query};
 ghost use Rattle.queries.specs.Arrays.{lent_in, zeros};
 
 use crate::Posed;
-use limits::{SIGNED_GENERATORS, STATES_ROOM, WORD_LETTERS};
+use limits::WORD_LETTERS;
 use trees::SuffixTree;
 use words::{Letters, Refusal};
 
-// Room for every list and target that the questions let pass, also for a list with its inverses behind it: for the target's form, and for the tree.
+// Room for every target that the questions let pass, and for the tree of a list, of so many states and generators: a list without its inverses has fewer, and
+// what it can't use need not be zeroed.
 #[derive(Drop)]
-pub struct Room {
+pub struct Room<const STATES: usize, const GENERATORS: usize> {
     pub form: [u8; WORD_LETTERS],
-    pub letters: [u8; STATES_ROOM],
-    pub rests: [u16; STATES_ROOM],
-    pub children_r: [u16; STATES_ROOM],
-    pub children_s: [u16; STATES_ROOM],
-    pub wholes: [u16; SIGNED_GENERATORS],
+    pub letters: [u8; STATES],
+    pub rests: [u16; STATES],
+    pub children_r: [u16; STATES],
+    pub children_s: [u16; STATES],
+    pub wholes: [u16; GENERATORS],
 }
 
-impl Room {
-    pub fn new() -> Room
-        ensures { lent_in result ≡ zeros }
+impl<const STATES: usize, const GENERATORS: usize> Room<STATES, GENERATORS> {
+    pub fn new() -> Self
+        ensures { lent_in result ≡ zeros STATES GENERATORS }
     {
         Room {
             form: [0; WORD_LETTERS],
-            letters: [0; STATES_ROOM],
-            rests: [0; STATES_ROOM],
-            children_r: [0; STATES_ROOM],
-            children_s: [0; STATES_ROOM],
-            wholes: [0; SIGNED_GENERATORS],
+            letters: [0; STATES],
+            rests: [0; STATES],
+            children_r: [0; STATES],
+            children_s: [0; STATES],
+            wholes: [0; GENERATORS],
         }
     }
 
-    // As the function `pose`.
+    // As the function `pose`, where there is room for every list.
     pub fn pose(&mut self, bytes: &[u8], ends: &[u16], target: &[u8]) -> Result<Posed, Refusal>
-        ensures { ByQuestions (of_query bytes.now ends.now target.now) bytes.now ends.now target.now result (lent_in self.old) (lent_in self.new) }
+        ensures { most_of_list < STATES → most_generators ≤ GENERATORS
+            → ByQuestions (of_query bytes.now ends.now target.now) bytes.now ends.now target.now result (lent_in self.old) (lent_in self.new) }
     {
         crate::pose(
             bytes,
@@ -89,9 +91,9 @@ impl Room {
     pub fn tree(&self, count: usize, generators: usize) -> SuffixTree<'_>
         ensures nodes { (result.count ≡ count) × (result.letters.now ≡ self.now.letters) × (result.rests.now ≡ self.now.rests)
             × (result.children_r.now ≡ self.now.children_r) × (result.children_s.now ≡ self.now.children_s) }
-        ensures wholes { generators ≤ most_signed_generators → result.wholes.now ≡ take generators self.now.wholes }
+        ensures wholes { generators ≤ GENERATORS → result.wholes.now ≡ take generators self.now.wholes }
     {
-        let wholes = if generators <= SIGNED_GENERATORS {
+        let wholes = if generators <= GENERATORS {
             &self.wholes[..generators]
         } else {
             &self.wholes[..]

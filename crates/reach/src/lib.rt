@@ -5,6 +5,7 @@ mod deciding;
 
 ghost use Rattle.reach.specs.Calls.{Reaches};
 
+use limits::{GENERATORS, LIST_STATES};
 use queries::room::Room;
 use words::Refusal;
 
@@ -21,7 +22,7 @@ pub fn reachable(
         (record { first = first.old; second = second.old })
         (record { first = first.new; second = second.new }) }
 {
-    let mut room = Room::new();
+    let mut room = Room::<LIST_STATES, GENERATORS>::new();
     let posed = room.pose(bytes, ends, target)?;
     let form = room.form(posed.t);
     let tree = room.tree(posed.count, ends.len());

@@ -15,6 +15,7 @@ ghost use Rattle.subgroups.specs.Judging.{InverseForms, Doubled, JudgesSizes, Ju
 use crate::asking::of_signed_sizes;
 use crate::signing::sign_factors;
 use engine::judging::settle;
+use limits::{SIGNED_GENERATORS, STATES_ROOM};
 use queries::room::Room;
 use slices::copying::copy_at;
 use trees::SuffixTree;
@@ -80,7 +81,7 @@ fn judge_reduced(
         (record { first = first.new; second = second.new; witness = witness.new })
         inverses.old inverses.new }
 {
-    let mut room = Room::new();
+    let mut room = Room::<STATES_ROOM, SIGNED_GENERATORS>::new();
     let posed = room.pose_reduced(list_letters, list_ends, target)?;
     let form = room.form(posed.t);
     let tree = room.tree(posed.count, list_ends.len());

@@ -3,7 +3,7 @@ use mathlib.Core.List.{map}
 use Prim.Native.Nat.{◌≤◌}
 use native.Mathlib.Omega.{arith}
 use lib.ListN.{length}
-use Rattle.limits.specs.Limits.{most_signed_generators}
+use Rattle.limits.specs.Limits.{most_generators}
 use Rattle.words.specs.Word.{nf}
 use Rattle.products.specs.Product.{generators}
 use Rattle.queries.specs.Arrays.{lent_in}
@@ -16,8 +16,8 @@ pub returns : goal.returns
 returns c =
     let a = c.args in
     let posed = c.in_ok-posed.posed in
-    let ready = posed_passed a.bytes.now a.ends.now a.target.now (lent_in c.new-room.result) (lent_in c.pose.new.self) c.pose.ensures c.in_ok-posed.was in
-    let few : length a.ends.now ≤ most_signed_generators = omega (arith, ready.few) in
+    let ready = posed_passed a.bytes.now a.ends.now a.target.now (lent_in c.new-room.result) (lent_in c.pose.new.self) (c.pose.ensures (omega arith) (omega arith)) c.in_ok-posed.was in
+    let few : length a.ends.now ≤ most_generators = omega (arith, ready.few) in
     let shown = c.form-form.ensures.short ready.forms.form_short in
     reaches_reduced a.bytes.now a.ends.now a.target.now c.reach_form.result (record { first = a.first.now; second = a.second.now })
     (record { first = c.reach_form.new.first; second = c.reach_form.new.second })
