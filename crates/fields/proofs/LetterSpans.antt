@@ -14,7 +14,7 @@ use Rattle.fields.specs.Answers.{whole_of, SpanOf}
 use Rattle.fields.proofs.Reading.{bytes_whole, field_whole, after_number}
 
 -- so many bytes from a place on, as a part of the card
-part_there : (k : ℕ) (card : List ℕ) (at : ℕ) → at ≤ length card → slice at (at + k) card ≡ take k (drop at card)
+pub part_there : (k : ℕ) (card : List ℕ) (at : ℕ) → at ≤ length card → slice at (at + k) card ≡ take k (drop at card)
 part_there k card at h = rw take-add (drop_at (take at card) (take k (drop at card)) at (length-take-le at card h))
 
 module _ (card : List ℕ) (at : ℕ) where

@@ -2,15 +2,17 @@
 --     bytes_whole, number_whole, bytes_cut, number_cut    at a place of a card: whole exactly where that many bytes are left
 --     field_whole                                         what an answer says of the field
 --     after_number, after_signed                          what stands behind a field that was read
+--     number_below                                        a number is within its bytes
 --     number_spelled, complement_read                     a number is found again in its bytes, a signed one in its two's complement
 --     bytes_read, number_read, letters_read, signed_read  a field that is written in front of a rest is read, and the rest is left
 -- Assumes nothing.
 use mathlib.Core.Path.{◌≡◌, refl, ap, ◌∙◌}
-use mathlib.Core.List.{List, ◌++◌}
+use mathlib.Core.List.{List, [], ◌∷◌, ◌++◌}
 use Prim.Native.Nat.{ℕ, zero, suc, ◌+◌, ◌-◌, ◌/◌, ◌^◌, ◌≤◌, ◌<◌}
+use native.Mathlib.Nat.{pow-suc}
 use native.Mathlib.Omega.{arith}
 use native.Mathlib.Decide.{dec_lt}
-use lib.ListN.{length, take, drop, length-drop, length-append}
+use lib.ListN.{length, take, drop, get_or, length-drop, length-append}
 use lib.Seq.{take-append_seam, drop-append_seam, drop-drop}
 use lib.IntN.{ℤ, pos, negsuc}
 use lib.Signed.{mag}
@@ -64,6 +66,12 @@ after_number k card at h e = behind k card at h (number_whole k card at) (number
 pub after_signed : (card : List ℕ) (at : ℕ) {z : ℤ} {rest : List ℕ} → signed_field (drop at card) ≡ Whole z rest
     → (rest ≡ drop (at + 8) card) × (at + 8 ≤ length card)
 after_signed card at e = behind 8 card at (omega arith) (signed_whole card at) (signed_cut card at) e
+
+-- ---- how large a number is
+
+pub number_below : (bs : List ℕ) → ((j : ℕ) → get_or bs j 0 < 256) → number bs < 256 ^ length bs
+number_below [] h = omega arith
+number_below (b ∷ bs) h = omega (arith, h 0, number_below bs (λ j. h (suc j)), pow-suc 256 (length bs))
 
 -- ---- what is spelled is read again
 

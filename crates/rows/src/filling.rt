@@ -126,6 +126,17 @@ fn read_letter(
     }
 }
 
+// Copies the first `count` entries. By place: `copy_from_slice` would have the archive for C ask for `memmove`.
+fn copy_row(from: &[u16], count: usize, to: &mut [u16])
+    requires count_in_bounds { count ≤ length from.now }
+    requires count_in_bounds_2 { count ≤ length to.old }
+    ensures { Rewritten (at from.now) to.old to.new count }
+{
+    for q in 0..count {
+        to[q] = from[q];
+    }
+}
+
 // Fills the rows of the target, from the table's row of the empty word on.
 pub(crate) fn fill_rows(
     target: &[u8],
@@ -137,7 +148,7 @@ pub(crate) fn fill_rows(
     requires { Fits tree.now.count n.0 tree.now.children_r.now tree.now.children_s.now target.now table.now rows.old }
     ensures { Filled tree.now.count n.0 tree.now.children_r.now tree.now.children_s.now target.now table.now rows.old rows.new }
 {
-    rows[..tree.count].copy_from_slice(&table[..tree.count]);
+    copy_row(table, tree.count, rows);
     let mut first = [0u16; limits::STATES_ROOM];
     for (i, letter) in target.iter().enumerate() {
         read_letter(*letter, tree, n, table, rows, i, &mut first);

@@ -36,6 +36,12 @@ rs_cancel (S ∷ []) e = absurd (cc)
 rs_cancel (S ∷ R ∷ w) e = absurd (cc)
 rs_cancel (S ∷ S ∷ w) e = absurd (cc)
 
+-- another one stays
+pub rs_stay : (w : Word) → (One-R ≡ ending_of w → ⊥) → rs (arrive R w) ≡ rs w + 1
+rs_stay [] other = omega arith
+rs_stay (R ∷ w) other = absurd (other refl)
+rs_stay (S ∷ w) other = omega arith
+
 -- an S takes no R along
 pub rs_of_s : (w : Word) → rs (arrive S w) ≡ rs w
 rs_of_s [] = refl

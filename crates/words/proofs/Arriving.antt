@@ -2,9 +2,11 @@
 -- come, and in what order: that is the parameter `rest`. Assumes nothing.
 use mathlib.Core.Path.{◌≡◌, refl, sym, ap, subst, ◌∙◌}
 use mathlib.Core.List.{List, [], ◌∷◌, ◌++◌, map-append}
-use Prim.Native.Nat.{ℕ, ◌+◌, ◌*◌, zero-le}
+use Prim.Native.Nat.{ℕ, ◌+◌, ◌*◌, ◌<◌, zero-le}
+use native.Mathlib.Numerals.{add-one}
 use native.Mathlib.Omega.{arith}
-use lib.ListN.{length, length-append}
+use lib.ListN.{length, drop, get_or, length-append}
+use lib.Seq.{drop-cons}
 use Rattle.words.specs.Word.{Word, arrived, inverse, inverse_letter}
 use Rattle.words.specs.Bytes.{letter, word}
 use Rattle.words.specs.Account.{rs}
@@ -14,6 +16,15 @@ use Rattle.words.specs.declared.arrival.Top.{Top}
 use Rattle.words.proofs.NormalForm.{arrived_append}
 use Rattle.words.proofs.Accounting.{rs_append}
 use Rattle.words.proofs.Inverse.{inverse_append}
+
+-- x arrives, and y at what x leaves: so x and y arrive
+pub arrives_then : {x y : Word} {s : List ℕ} {top : Top} {s' : List ℕ} {top' : Top} {s'' : List ℕ} {top'' : Top} → Arrives x s top s' top' → Arrives y s' top' s'' top'' → Arrives (x ++ y) s top s'' top''
+arrives_then {x} {y} {s'' = s''} {top''} m n =
+    record {
+      held = λ w h. subst (Held s'' top''.len top''.ending) (sym (arrived_append w x y)) (n.held (arrived w x) (m.held w h));
+      letters = omega (arith, m.letters, n.letters, length-append x y);
+      rs_gone = λ w h. omega (arith, m.rs_gone w h, n.rs_gone (arrived w x) (m.held w h), rs_append x y, ap rs (arrived_append w x y));
+    }
 
 -- The letters of `total` arrive at the stack, which was empty; `rest` is what is still to come. Each letter, and each R, that is not still to come is on the
 -- stack or is counted as gone.
@@ -54,6 +65,10 @@ module _ {s : List ℕ} {top : Top} {rest total : Word} (e : rest ≡ []) (a : A
 
   pub arriving_ends : Held s top.len top.ending (arrived [] total)
   arriving_ends = subst (Held s top.len top.ending) all_arrived a.held
+
+-- what is still to come of a word, of which i letters have arrived
+pub rest_of_word : (w : List ℕ) (i : ℕ) → i < length w → word (drop i w) ≡ (letter (get_or w i 0) ∷ []) ++ word (drop (i + 1) w)
+rest_of_word w i h = rw (add-one i) (ap word (drop-cons w i 0 h))
 
 -- what is still to come of a word's inverse, where b is the last letter that has not arrived
 pub rest_of_inverse : (all before : List ℕ) (b : ℕ) → all ≡ before ++ b ∷ [] → inverse (word all) ≡ inverse_letter (letter b) ++ inverse (word before)

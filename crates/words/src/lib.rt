@@ -50,7 +50,7 @@ fn write_out(stack: &[u8], len: usize, out: &mut [u8]) -> Letters
     ensures result_value { result.0 ≡ len }
     ensures out_after { out.new ≡ overwritten (take len stack.now) out.old }
 {
-    out[..len].copy_from_slice(&stack[..len]);
+    slices::copying::copy_at(&stack[..len], out, 0);
     Letters(len as u16)
 }
 

@@ -1,12 +1,12 @@
--- A letter that goes finds on the stack the letters that go with it: an R that meets an R finds one, and an S that meets SS two. Assumes nothing.
-use mathlib.Core.Path.{◌≡◌, refl}
-use Prim.Native.Nat.{ℕ}
+-- A letter that goes finds on the stack the letters that go with it: an R that meets an R finds one, and an S that meets SS two. The arm of the last ending is
+-- reached where the number is none of 0, 1 and 2. Assumes nothing.
+use mathlib.Core.Path.{◌≡◌, refl, ap}
 use native.Mathlib.Omega.{arith}
 use denote.Enum.Declared.{tag_of}
 use Rattle.words.specs.contracts.Ending.{the_type}
 use Rattle.words.specs.declared.Ending.{Ending}
 use Rattle.words.specs.declared.Ending.TheVariants.{Nothing, R, S, SS}
-use Rattle.words.proofs.Stack.{r_cancels, s_cancels, height_r, height_ss}
+use Rattle.words.proofs.Stack.{r_cancels, s_cancels, ending_3, height_r, height_ss}
 use Rattle.words.proofs.arrival.arrive.Goals as goal
 
 -- an ending by its number
@@ -16,12 +16,6 @@ by_1 R h = refl
 by_1 S h = absurd (omega (arith, h))
 by_1 SS h = absurd (omega (arith, h))
 
-by_no_other : (e : Ending) → (tag_of the_type e ≡ 0 → ⊥) → (tag_of the_type e ≡ 1 → ⊥) → (tag_of the_type e ≡ 2 → ⊥) → e ≡ SS
-by_no_other Nothing h i j = absurd (h refl)
-by_no_other R h i j = absurd (i refl)
-by_no_other S h i j = absurd (j refl)
-by_no_other SS h i j = refl
-
 pub returns-in-1 : goal.returns-in-1
 returns-in-1 c =
     let e = by_1 c.args.top.ending c.in-1.is in
@@ -30,5 +24,6 @@ returns-in-1 c =
 pub returns-in_default-ending-2 : goal.returns-in_default-ending-2
 returns-in_default-ending-2 c =
     let not_r : c.args.byte ≡ 82 → ⊥ = λ h. omega arith in
-    let e = by_no_other c.args.top.ending (λ h. omega (arith, h)) (λ h. omega (arith, h)) (λ h. omega (arith, h)) in
+    let number = λ (e : Ending). tag_of the_type e in
+    let e = ending_3 _ _ _ c.requires.some_held (λ h. omega (arith, ap number h)) (λ h. omega (arith, ap number h)) (λ h. omega (arith, ap number h)) in
     s_cancels _ _ _ _ not_r e (height_ss _ _ _ c.requires.some_held e) c.pop_to-in_default-ending-2.ensures
