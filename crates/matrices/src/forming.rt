@@ -24,8 +24,8 @@ fn times_letter(m: Matrix, byte: u8) -> Matrix
     m.times_s()
 }
 
-// The product of the letters' matrices, from the left. The entries of each prefix's matrix are far within 64 bits, as they need not be for a
-// word that is not reduced.
+// The product of the letters' matrices, from the left, place by place. The entries of each prefix's matrix are far within 64 bits, as they need not
+// be for a word that is not reduced.
 fn product(form: &[u8]) -> Matrix
     requires normal { Normal (word_of form.now) }
     requires form_len_bound { length form.now ≤ most_of_form }
@@ -37,8 +37,8 @@ fn product(form: &[u8]) -> Matrix
         c: 0,
         d: 1,
     };
-    for byte in form {
-        m = times_letter(m, *byte);
+    for i in 0..form.len() {
+        m = times_letter(m, form[i]);
     }
     m
 }

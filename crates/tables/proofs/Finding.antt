@@ -19,7 +19,7 @@ noted_finds children p None below none =
 
 module _ {count : ℕ} {letters rests : List ℕ} where
   -- where the children agree with the letters and rests, the child that is noted is the node with the letter in front
-  child_front : {letter p r : ℕ} {children : List ℕ} → LinkedBy count letters rests letter children
+  pub child_front : {letter p r : ℕ} {children : List ℕ} → LinkedBy count letters rests letter children
       → Finds count (Noted children count p) r → Finds count (λ a. Front count letters rests letter a p) r
   child_front {letter} {p} {r} {children} linked finds =
       record {

@@ -29,7 +29,7 @@ fn rests_earlier(rests: &[u16], count: usize) -> bool
     ensures { Tells result (RestsEarlier rests.now count) }
 {
     for p in 1..count {
-        if p <= usize::from(rests[p]) {
+        if p <= entry(rests, p) {
             return false;
         }
     }

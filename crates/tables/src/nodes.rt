@@ -6,13 +6,14 @@ ghost use Rattle.tables.specs.Rules.{place, next_pair};
 ghost use Rattle.tables.specs.Nodes.{Finds, Node, node_or, NotedAt, RestsEarlier, Begins, Front};
 
 use trees::SuffixTree;
+use trees::entries::entry;
 
 // The child of p, where it has one.
 pub(crate) fn child(children: &[u16], p: usize) -> Option<usize>
     requires { p < length children.now }
     ensures { NotedAt children.now p result }
 {
-    let c = usize::from(children[p]);
+    let c = entry(children, p);
     if c == 0 { None } else { Some(c) }
 }
 
@@ -34,7 +35,7 @@ pub(crate) fn rest_after(tree: &SuffixTree, letter: u8, p: usize) -> Option<usiz
     ensures node { Node tree.now.count result }
 {
     if begins(tree.letters, letter, p) {
-        Some(usize::from(tree.rests[p]))
+        Some(entry(tree.rests, p))
     } else {
         None
     }

@@ -136,8 +136,8 @@ pub(crate) fn start(table: &mut [u16], tree: &SuffixTree)
     requires all_below { AllBelow tree.now.wholes.now (length tree.now.wholes.now) tree.now.count }
     ensures { Relaxed 1 (Starts tree.now.count tree.now.wholes.now) table.old table.new }
 {
-    for whole in tree.wholes {
-        relax(table, usize::from(*whole), Factors(1));
+    for j in 0..tree.wholes.len() {
+        relax(table, usize::from(tree.wholes[j]), Factors(1));
     }
 }
 

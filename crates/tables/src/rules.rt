@@ -113,37 +113,53 @@ fn relax_s(table: &mut [u16], tree: &SuffixTree, x: usize, y: usize, k: Factors)
 
 // E at a node b that begins with S, whose rest is t: with the pair first, (a, t) from (v, b); with the pair second, (b, v) from (t, a).
 // The rest is read without a test of the place, since this is the body of the loop that rule E is.
-fn relax_triple(table: &mut [u16], tree: &SuffixTree, a: usize, v: usize, b: usize, k: Factors)
-    requires ready { Ready tree.now.count k.0 table.old }
-    requires count_in_bounds { tree.now.count ≤ length tree.now.letters.now }
-    requires count_in_bounds_2 { tree.now.count ≤ length tree.now.rests.now }
-    requires rests_earlier { RestsEarlier tree.now.rests.now tree.now.count }
-    requires a_lt_count { a < tree.now.count }
-    requires v_lt_count { v < tree.now.count }
-    requires b_lt_count { b < tree.now.count }
-    ensures { Relaxed k.0 (TripleTurn tree.now.count tree.now.letters.now tree.now.rests.now a v b) table.old table.new }
+fn relax_triple(
+    table: &mut [u16],
+    count: usize,
+    letters: &[u8],
+    rests: &[u16],
+    a: usize,
+    v: usize,
+    b: usize,
+    k: Factors,
+)
+    requires ready { Ready count k.0 table.old }
+    requires count_in_bounds { count ≤ length letters.now }
+    requires count_in_bounds_2 { count ≤ length rests.now }
+    requires rests_earlier { RestsEarlier rests.now count }
+    requires a_lt_count { a < count }
+    requires v_lt_count { v < count }
+    requires b_lt_count { b < count }
+    ensures { Relaxed k.0 (TripleTurn count letters.now rests.now a v b) table.old table.new }
 {
-    let count = tree.count;
-    if begins(tree.letters, b'S', b) {
-        let t = usize::from(tree.rests[b]);
+    if begins(letters, b'S', b) {
+        let t = usize::from(rests[b]);
         relax_from(table, place_of(count, v, b), place_of(count, a, t), k);
         relax_from(table, place_of(count, t, a), place_of(count, b, v), k);
     }
 }
 
 // E for a pair of which the first with S in front is a, and the second without its S is v. One loop for both places of the pair in the rule:
-// they ask the same of each node.
-fn relax_triples(table: &mut [u16], tree: &SuffixTree, a: usize, v: usize, k: Factors)
-    requires ready { Ready tree.now.count k.0 table.old }
-    requires count_in_bounds { tree.now.count ≤ length tree.now.letters.now }
-    requires count_in_bounds_2 { tree.now.count ≤ length tree.now.rests.now }
-    requires rests_earlier { RestsEarlier tree.now.rests.now tree.now.count }
-    requires a_lt_count { a < tree.now.count }
-    requires v_lt_count { v < tree.now.count }
-    ensures { Relaxed k.0 (Triples tree.now.count tree.now.letters.now tree.now.rests.now a v) table.old table.new }
+// they ask the same of each node. The tree comes in its parts, for speed: through a reference each turn would read anew where they lie.
+fn relax_triples(
+    table: &mut [u16],
+    count: usize,
+    letters: &[u8],
+    rests: &[u16],
+    a: usize,
+    v: usize,
+    k: Factors,
+)
+    requires ready { Ready count k.0 table.old }
+    requires count_in_bounds { count ≤ length letters.now }
+    requires count_in_bounds_2 { count ≤ length rests.now }
+    requires rests_earlier { RestsEarlier rests.now count }
+    requires a_lt_count { a < count }
+    requires v_lt_count { v < count }
+    ensures { Relaxed k.0 (Triples count letters.now rests.now a v) table.old table.new }
 {
-    for b in 0..tree.count {
-        relax_triple(table, tree, a, v, b, k);
+    for b in 0..count {
+        relax_triple(table, count, letters, rests, a, v, b, k);
     }
 }
 
@@ -157,7 +173,7 @@ fn relax_e(table: &mut [u16], tree: &SuffixTree, x: usize, y: usize, k: Factors)
 {
     if let Some(a) = child(tree.children_s, x) {
         if let Some(v) = rest_after(tree, b'S', y) {
-            relax_triples(table, tree, a, v, k);
+            relax_triples(table, tree.count, tree.letters, tree.rests, a, v, k);
         }
     }
 }

@@ -26,7 +26,7 @@ returns-in_err-list-clause-answers c =
     let (target, target_whole, says) = rw c.in_ok-goal.ensures.ok_part at c.target.ensures in
     let list_cut = rw c.in_err-list.ensures.ok_part at c.list.ensures in
     let value = rw c.in_err-list.ensures.ok_part at c.in_err-list.ensures.value in
-    let cut : c.in_err-list.field-0.0 ≡ FieldCut (length c.args.card.now) = cc in
+    let cut : c.in_err-list.field-0.0 ≡ FieldCut (length c.args.card.now) = grind (arith, p.1, p.2, value) in
     let whole : fields c.args.map (drop 1 c.args.card.now) ≡ Cut = rw (bound_read at.In_ok-n, target_whole, list_cut) refl in
     rw (p.1, p.2, cut, whole) (refl, refl)
 

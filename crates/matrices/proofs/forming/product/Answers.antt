@@ -1,6 +1,6 @@
 -- One letter more. Assumes nothing.
-use Rattle.std.proofs.Common.{◌≤◌, ◌^◌, get_or, sym, ap, ◌∙◌, arith}
-use mathlib.Core.Path.{subst}
+use Rattle.std.proofs.Common.{ℕ, ◌≤◌, ◌^◌, get_or, sym, ◌∙◌, arith}
+use mathlib.Core.Path.{ap₂, subst}
 use native.Mathlib.Nat.{le_trans}
 use lib.ListN.{length-map}
 use Rattle.words.specs.Bytes.{letter, word as word_of}
@@ -12,15 +12,15 @@ use Rattle.matrices.proofs.forming.product.Goals as goal
 
 pub times_letter-m-requires : goal.times_letter-m-requires
 times_letter-m-requires c =
-    let l = c.loop-byte in
+    let l = c.loop-i in
     let w = c.args.form.now in
     subst (λ (n : Matrix). size n ≤ 2 ^ 44) (sym l.invariant)
-    (le_trans (prefix_bound 40 (word_of w) c.requires.normal (omega (arith, length-map w letter)) l.byte-index) (omega arith))
+    (le_trans (prefix_bound 40 (word_of w) c.requires.normal (omega (arith, length-map w letter)) l.i) (omega arith))
 
-pub loop-byte-preserved : goal.loop-byte-preserved
-loop-byte-preserved c =
-    let l = c.loop-byte in
+pub loop-i-preserved : goal.loop-i-preserved
+loop-i-preserved c =
+    let l = c.loop-i in
     let w = c.args.form.now in
     c.times_letter-m.ensures
-    ∙ ap (λ (n : Matrix). times n (matrix_of_letter (letter (get_or w l.byte-index 0)))) l.invariant
-    ∙ product_more w l.byte-index (omega arith)
+    ∙ ap₂ (λ (n : Matrix) (p : ℕ). times n (matrix_of_letter (letter (get_or w p 0)))) l.invariant (omega arith)
+    ∙ product_more w l.i (omega arith)

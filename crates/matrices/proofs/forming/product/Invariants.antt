@@ -5,5 +5,5 @@ use Rattle.unimodular.specs.Matrix.{matrix_of}
 use Rattle.matrices.specs.Entries.{matrix}
 use Rattle.matrices.proofs.forming.product.Given as goal
 
-abbrev pub invariant-loop-byte : goal.invariant-loop-byte
-invariant-loop-byte l = matrix l.m ≡ matrix_of (take l.byte-index (word_of l.form))
+abbrev pub invariant-loop-i : goal.invariant-loop-i
+invariant-loop-i l = matrix l.m ≡ matrix_of (take l.i (word_of l.form))

@@ -4,5 +4,5 @@ use Rattle.levels.specs.Passes.{Upto}
 use Rattle.tables.specs.Levelling.{StartTurn}
 use Rattle.tables.proofs.passes.start.Given as goal
 
-abbrev pub invariant-loop-whole : goal.invariant-loop-whole
-invariant-loop-whole l = Relaxed 1 (Upto (StartTurn l.tree.count l.tree.wholes.now) l.whole-index) l.initial.table l.table
+abbrev pub invariant-loop-j : goal.invariant-loop-j
+invariant-loop-j l = Relaxed 1 (Upto (StartTurn l.tree.count l.tree.wholes.now) l.j) l.initial.table l.table

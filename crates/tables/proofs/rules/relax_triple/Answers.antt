@@ -14,12 +14,12 @@ use Rattle.tables.proofs.rules.relax_triple.Goals.{After-from-t}
 use Rattle.tables.proofs.rules.relax_triple.Goals as goal
 
 -- b's rest is a node
-rest_below : (c : After-from-t) → c.from-t.result < c.args.tree.now.count
+rest_below : (c : After-from-t) → c.from-t.result < c.args.count
 rest_below c =
     let a = c.args in
     let p = c.requires in
     let begins = told _ c.if-begins.true c.begins.ensures in
-    omega (arith, c.from-t.ensures, rest_inside a.tree.now.count a.tree.now.letters.now a.tree.now.rests.now p.rests_earlier a.b begins.0 p.b_lt_count)
+    omega (arith, c.from-t.ensures, rest_inside a.count a.letters.now a.rests.now p.rests_earlier a.b begins.0 p.b_lt_count)
 
 pub relax_from-requires-then-begins-clause-from_bound : goal.relax_from-requires-then-begins-clause-from_bound
 relax_from-requires-then-begins-clause-from_bound c = sum_fits (ready_relaxed c.requires.ready c.relax_from.ensures) c.place_of-then-begins-2.ensures.1
@@ -28,12 +28,12 @@ pub returns-then-begins : goal.returns-then-begins
 returns-then-begins c =
     let a = c.args in
     let p = c.requires in
-    let count = a.tree.now.count in
+    let count = a.count in
     let begins = told _ c.if-begins.true c.begins.ensures in
     let below = p.b_lt_count in
     let rest = c.from-t.ensures in
     found_relaxed (λ t q d. Only (place count a.v a.b) (place count a.a t) q d ⊎ Only (place count t a.a) (place count a.b a.v) q d)
-    (rest_front a.tree.now.letters.now a.tree.now.rests.now a.b below begins)
+    (rest_front a.letters.now a.rests.now a.b below begins)
     (omega (arith, rest, rest_below (goal.at.returns-then-begins c).After-from-t))
     (relaxed_then
     (relaxed_at c.place_of.result _ c.place_of-then-begins.result _ c.place_of.ensures.0
@@ -45,5 +45,5 @@ returns-then-begins c =
 pub returns-else-begins : goal.returns-else-begins
 returns-else-begins c =
     let a = c.args in
-    let none = no_front a.tree.now.letters.now a.tree.now.rests.now a.b (told_not _ c.if-begins.false c.begins.ensures) in
+    let none = no_front a.letters.now a.rests.now a.b (told_not _ c.if-begins.false c.begins.ensures) in
     relaxed_none (λ q d turn. none turn.0 turn.2)
