@@ -2,9 +2,7 @@
 // `stdout`.
 #![tactic(auto)]
 
-ghost use Rattle.std.specs.Prelude.{Result};
-ghost use Rattle.refusals.specs.declared.Refusal.{Refusal};
-ghost use Rattle.quick.specs.declared.Quick.{Quick};
+ghost use Rattle.std.specs.Prelude.{IfOk};
 ghost use Rattle.quick.specs.Calls.{Answers};
 
 use quick::Quick;
@@ -27,18 +25,25 @@ fn answer(output: &mut impl Write, answer: Result<Quick, Refusal>) -> io::Result
     }
 }
 
-fn ask(output: &mut impl Write, bytes: &[u8], ends: &[u16], target: &[u8]) -> io::Result<()>
-    ensures { (given : Result Quick Refusal) × Answers bytes.now ends.now target.now given }
+// What a call gave. Its callers print and go on; the contract speaks of it.
+#[derive(Clone, Copy)]
+struct Given(Result<Quick, Refusal>);
+
+// Asks, prints what was asked and answered, and answers what was given.
+fn ask(output: &mut impl Write, bytes: &[u8], ends: &[u16], target: &[u8]) -> io::Result<Given>
+    ensures { IfOk result (λ given. Answers bytes.now ends.now target.now given.0) }
 {
-    let given = quick::quick_no(bytes, ends, target);
     call(output, bytes, ends, target)?;
+    let given = quick::quick_no(bytes, ends, target);
     answer(output, given)?;
-    writeln!(output)
+    writeln!(output)?;
+    Ok(Given(given))
 }
 
 fn without_list(output: &mut impl Write, target: &[u8]) -> io::Result<()> {
     let ends = [0u16; 0];
-    ask(output, b"", &ends, target)
+    ask(output, b"", &ends, target)?;
+    Ok(())
 }
 
 // 02's list SR: no power of T is R, even modulo 7, but its inverse RSS is one there, the sixth.
@@ -48,7 +53,8 @@ fn powers_of_t(output: &mut impl Write) -> io::Result<()> {
     ask(output, b"SR", &ends, b"RSS")?;
     ask(output, b"SR", &ends, b"SRSRSR")?;
     ask(output, b"SR", &ends, b"")?;
-    ask(output, b"SR", &ends, b"SSR")
+    ask(output, b"SR", &ends, b"SSR")?;
+    Ok(())
 }
 
 // "so an empty list always gets it"
@@ -72,7 +78,8 @@ fn worked_values(output: &mut impl Write) -> io::Result<()> {
     let two = [2u16, 3];
     ask(output, b"RSS", &two, b"R")?;
     let three = [4u16, 5, 9];
-    ask(output, b"RSRSSSRSS", &three, b"R")
+    ask(output, b"RSRSSSRSS", &three, b"R")?;
+    Ok(())
 }
 
 // Only S: its powers are the unit, S and SS. With R behind it every word is a product.
@@ -82,7 +89,8 @@ fn both_letters(output: &mut impl Write) -> io::Result<()> {
     ask(output, b"S", &s, b"R")?;
     let both = [1u16, 2];
     ask(output, b"SR", &both, b"R")?;
-    ask(output, b"SR", &both, b"RSRSSRSRSRSSRSSR")
+    ask(output, b"SR", &both, b"RSRSSRSRSRSSRSSR")?;
+    Ok(())
 }
 
 // Generators of the matrices (a b; c d) with 7 dividing c: the products of their images are the 21 with c = 0. T, SRSR and (4 3; -7 -5) are such, R, SSR and
@@ -97,7 +105,8 @@ fn gamma_0_7(output: &mut impl Write) -> io::Result<()> {
     ask(output, list, &ends, b"SSR")?;
     ask(output, list, &ends, b"SSRSSRSSRSSRSSRSSR")?;
     ask(output, list, &ends, b"SSRSSRSSRSSRSSRSSRSSR")?;
-    ask(output, list, &ends, b"")
+    ask(output, list, &ends, b"")?;
+    Ok(())
 }
 
 // Questions 7 to 12, and the largest that pass.
@@ -132,7 +141,8 @@ fn refused(output: &mut impl Write) -> io::Result<()> {
         b"RSS",
         &two,
         b"RSSRSSRSSRSSRSSRSSRSSRSSRSSRSSRSSRSSRSSRSSRSSRSSRSSRSSRSSRSSRSSRSSRSSRSSRSSRSSRSS",
-    )
+    )?;
+    Ok(())
 }
 
 // The largest list: four generators of 80 letters, each with an even number of R's, and a target of 80 with an odd number; modulo 7 it is a product all the same.
@@ -143,7 +153,8 @@ fn four_of_80(output: &mut impl Write) -> io::Result<()> {
         b"SRSRSRSRSRSRSRSRSRSRSRSRSRSRSRSRSRSRSRSRSRSRSRSRSRSRSRSRSRSRSRSRSRSRSRSRSRSRSRSRRSRSRSRSRSRSRSRSRSRSRSRSRSRSRSRSRSRSRSRSRSRSRSRSRSRSRSRSRSRSRSRSRSRSRSRSRSRSRSSSRSSRSSRSSRSSRSSRSSRSSRSSRSSRSSRSSRSSRSSRSSRSSRSSRSSRSSRSSRSSRSSRSSRSSRSSRSSRSSRSSRSSRSSRSSRSRSRSRSRSRSRSRSRSRSRSRSRSRSRSRSRSRSRSRSRSRSRSRSRSRSRSRSRSRSRSRSRSRSRS",
         &ends,
         b"RSSRSSRSSRSSRSSRSSRSSRSSRSSRSSRSSRSSRSSRSSRSSRSSRSSRSSRSSRSSRSSRSSRSSRSSRSSRSSRS",
-    )
+    )?;
+    Ok(())
 }
 
 fn main(rt: HostRuntime) -> io::Result<()> {

@@ -5,11 +5,17 @@ use crate::number;
 use std::io;
 use std::io::Write;
 
-// How many items have the value.
+// How many items have the value. Counted by a loop, which takes many items at once: a filter takes them one by one.
 fn count<T: PartialEq>(items: &[T], value: &T) -> usize
     ensures { result ≡ count_by (λ item. T.eq item value.now) items.now }
 {
-    items.iter().filter(|item| *item == value).count()
+    let mut count = 0;
+    for item in items {
+        if item == value {
+            count += 1;
+        }
+    }
+    count
 }
 
 // How many entries of a table are 0, and how many are as they were.
